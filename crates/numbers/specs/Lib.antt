@@ -1,0 +1,6 @@
+-- The words that every crate's definitions use, and the laws of lists that code writes.
+pub mod Words
+pub mod Write
+pub mod Places
+pub mod Lent
+pub mod Tests

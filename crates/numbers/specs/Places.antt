@@ -1,0 +1,128 @@
+-- Laws of places within one list: it is read by place, compared by place, and lent in parts.
+use mathlib.Core.Path.{_≡_, refl, sym, ap, _∙_}
+use mathlib.Core.Logic.{_⊎_, inl, inr, ⊎-elim}
+use mathlib.Core.List.{List, [], _∷_, _++_}
+use Prim.Native.Nat.{ℕ, zero, suc, _+_, _-_, _≤_, _<_}
+use native.Mathlib.Nat.{le-of-suc-le-suc, not-suc-le-zero}
+use native.Mathlib.Decide.{decLt}
+use native.Mathlib.Omega.{arith}
+use lib.ListN.{length, getD, take, drop, set, length-append, length-drop, length-take, length-set, List·getD-append, List·getD-eq-default}
+use lib.Seq.{ext-getD, length-take-le, getD-take, getD-drop, drop-drop, getD-append-add}
+use borrow.Rule.Slice.PartMut.{putMid, post-is, mid-len, same-len-mid}
+use Rattle.numbers.specs.Words.{tab, written, placed}
+use Rattle.numbers.specs.Write.{length-tab, getD-tab, length-placed, drop-placed, getD-placed-before, getD-placed-behind, drop-written, take-written}
+
+module _ {A : Type 0} where
+  -- within its places a list is read the same whatever lies past them
+  pub getD-any : (l : List A) (k : ℕ) (d e : A) → k < length l → getD l k d ≡ getD l k e
+  getD-any [] k d e h = absurd (not-suc-le-zero h)
+  getD-any (a ∷ l) zero d e h = refl
+  getD-any (a ∷ l) (suc k) d e h = getD-any l k d e (le-of-suc-le-suc h)
+
+  pub getD-placed-in : (g : ℕ → A) (s n : ℕ) (x : List A) (i : ℕ) (d : A) → s + n ≤ length x → i < n → getD (placed g s n x) (s + i) d ≡ g i
+  unfolding written
+  getD-placed-in g s n x i d h k =
+      sym (getD-drop s (placed g s n x) i d)
+      ∙ ap (λ (l : List A). getD l i d) (drop-placed g s n x (omega arith))
+      ∙ List·getD-append (tab g n) (drop n (drop s x)) d i (omega (arith, length-tab g n))
+      ∙ getD-tab g n i d k
+
+  -- the first places
+  pub placed-front : (g : ℕ → A) (n : ℕ) (x : List A) → placed g 0 n x ≡ written g n x
+  unfolding placed
+  placed-front g n x = refl
+
+  -- a list that has its places so
+  pub is-placed : (d : A) (g : ℕ → A) (s n : ℕ) (x l : List A) → s + n ≤ length x → length l ≡ length x
+      → ((j : ℕ) → j < s → getD l j d ≡ getD x j d) → ((i : ℕ) → i < n → getD l (s + i) d ≡ g i) → ((j : ℕ) → s + n ≤ j → getD l j d ≡ getD x j d)
+      → l ≡ placed g s n x
+  is-placed d g s n x l h e p q r = ext-getD d l (placed g s n x) (e ∙ sym (length-placed g s n x h)) (λ j k. go j (decLt j s) (decLt j (s + n)))
+    where
+      go : (j : ℕ) → Dec (j < s) → Dec (j < s + n) → getD l j d ≡ getD (placed g s n x) j d
+      go j (yes a) b = p j a ∙ sym (getD-placed-before g s n x j d (omega arith) a)
+      go j (no a) (yes b) =
+          let i = j - s in
+          let t : s + i ≡ j = omega arith in
+          ap (λ (k : ℕ). getD l k d) (sym t) ∙ q i (omega arith) ∙ sym (getD-placed-in g s n x i d h (omega arith)) ∙ ap (λ (k : ℕ). getD (placed g s n x) k d) t
+      go j (no a) (no b) = r j (omega arith) ∙ sym (getD-placed-behind g s n x j d (omega arith) (omega arith))
+
+  -- a part is as its places are
+  pub part-ext : (d : A) (a n : ℕ) (l x : List A) → length l ≡ length x → ((j : ℕ) → a ≤ j → j < a + n → getD l j d ≡ getD x j d) → take n (drop a l) ≡ take n (drop a x)
+  part-ext d a n l x e h =
+      ext-getD d (take n (drop a l)) (take n (drop a x)) (simp (length-take, length-drop, e))
+      (λ i k. let b : i < n = small i k in getD-take n (drop a l) i d b ∙ getD-drop a l i d ∙ h (a + i) (omega arith) (omega arith) ∙ sym (getD-drop a x i d) ∙ sym (getD-take n (drop a x) i d b))
+    where
+      small : (i : ℕ) → i < length (take n (drop a l)) → i < n
+      small i k = omega (arith, length-take n (drop a l))
+
+  pub getD-part : (d : A) (a n : ℕ) (l : List A) (i : ℕ) → i < n → getD (take n (drop a l)) i d ≡ getD l (a + i) d
+  getD-part d a n l i h = getD-take n (drop a l) i d h ∙ getD-drop a l i d
+
+  -- a part apart from the places that were written is as it was
+  pub part-apart : (d : A) (g : ℕ → A) (s n : ℕ) (x : List A) (a k : ℕ) → s + n ≤ length x → (s + n ≤ a) ⊎ (a + k ≤ s) → take k (drop a (placed g s n x)) ≡ take k (drop a x)
+  part-apart d g s n x a k h o =
+      part-ext d a k (placed g s n x) x (length-placed g s n x h)
+      (λ j u v. ⊎-elim (λ w. getD-placed-behind g s n x j d (omega arith) (omega arith)) (λ w. getD-placed-before g s n x j d (omega arith) (omega arith)) o)
+
+  -- what lies behind the places written is as it was
+  pub drop-behind : (g : ℕ → A) (s n : ℕ) (x : List A) (a : ℕ) → s ≤ length x → s + n ≤ a → drop a (placed g s n x) ≡ drop a x
+  drop-behind g s n x a h b =
+      let r = a - (s + n) in
+      let q : s + (n + r) ≡ a = omega arith in
+      let f : (l : List A) → drop a l ≡ drop r (drop n (drop s l)) = λ l. ap (λ (i : ℕ). drop i l) (sym q) ∙ sym (drop-drop (n + r) s l) ∙ sym (drop-drop r n (drop s l)) in
+      f (placed g s n x)
+      ∙ ap (λ (l : List A). drop r (drop n l)) (drop-placed g s n x h)
+      ∙ ap (drop r) (drop-written g n (drop s x))
+      ∙ sym (f x)
+
+  -- the same places by another rule that agrees there
+  pub placed-same : (d : A) (g h : ℕ → A) (s n : ℕ) (x : List A) → s + n ≤ length x → ((i : ℕ) → i < n → g i ≡ h i) → placed g s n x ≡ placed h s n x
+  placed-same d g h s n x b e =
+      is-placed d h s n x (placed g s n x) b (length-placed g s n x b)
+      (λ j k. getD-placed-before g s n x j d (omega arith) k) (λ i k. getD-placed-in g s n x i d b k ∙ e i k) (λ j k. getD-placed-behind g s n x j d (omega arith) k)
+
+  -- ---- a lent part, by place: ys in the places a .. e - 1
+  module _ (d : A) (a e : ℕ) (x ys : List A) (h : a ≤ e) (k : e ≤ length x) (q : length ys ≡ e - a) where
+    pub lent-length : length (putMid a (e - a) x ys) ≡ length x
+    lent-length = same-len-mid a (e - a) x ys (q ∙ sym (mid-len a e x k))
+
+    front : length (take a x) ≡ a
+    front = length-take-le a x (omega arith)
+
+    pub lent-before : (j : ℕ) → j < a → getD (putMid a (e - a) x ys) j d ≡ getD x j d
+    lent-before j l = List·getD-append (take a x) _ d j (omega (arith, front)) ∙ getD-take a x j d l
+
+    pub lent-in : (i : ℕ) → i < e - a → getD (putMid a (e - a) x ys) (a + i) d ≡ getD ys i d
+    lent-in i l =
+        ap (λ (n : ℕ). getD (putMid a (e - a) x ys) (n + i) d) (sym front)
+        ∙ getD-append-add (take a x) (ys ++ drop (e - a) (drop a x)) i d
+        ∙ List·getD-append ys _ d i (omega (arith, q))
+
+    pub lent-behind : (j : ℕ) → e ≤ j → getD (putMid a (e - a) x ys) j d ≡ getD x j d
+    lent-behind j l =
+        let r = j - e in
+        let t : length (take a x) + (length ys + r) ≡ j = omega (arith, front, q) in
+        let u : a + ((e - a) + r) ≡ j = omega arith in
+        ap (λ (n : ℕ). getD (putMid a (e - a) x ys) n d) (sym t)
+        ∙ getD-append-add (take a x) (ys ++ drop (e - a) (drop a x)) (length ys + r) d
+        ∙ getD-append-add ys (drop (e - a) (drop a x)) r d
+        ∙ getD-drop (e - a) (drop a x) r d
+        ∙ getD-drop a x ((e - a) + r) d
+        ∙ ap (λ (n : ℕ). getD x n d) u
+
+  -- a lent part that comes back as a table
+  pub lent-placed : (g : ℕ → A) (a e : ℕ) (x : List A) {ys : List A} → a ≤ e → ys ≡ tab g (e - a) → putMid a (e - a) x ys ≡ placed g a (e - a) x
+  unfolding placed written
+  lent-placed g a e x h q = ap (λ (y : List A). take a x ++ (y ++ drop (e - a) (drop a x))) q
+
+  -- tables by two rules that agree
+  pub tab-same : (g h : ℕ → A) (n : ℕ) → ((i : ℕ) → i < n → g i ≡ h i) → tab g n ≡ tab h n
+  unfolding tab
+  tab-same g h zero e = refl
+  tab-same g h (suc n) e = ap (λ (l : List A). l ++ (g n ∷ [])) (tab-same g h n (λ i l. e i (omega arith))) ∙ ap (λ (v : A). tab h n ++ (v ∷ [])) (e n (omega arith))
+
+  pub getD-written-behind : (g : ℕ → A) (n : ℕ) (x : List A) (j : ℕ) (d : A) → n ≤ j → getD (written g n x) j d ≡ getD x j d
+  getD-written-behind g n x j d h = ap (λ (l : List A). getD l j d) (sym (placed-front g n x)) ∙ getD-placed-behind g 0 n x j d (omega arith) (omega arith)
+
+  pub getD-written-in : (g : ℕ → A) (n : ℕ) (x : List A) (j : ℕ) (d : A) → j < n → getD (written g n x) j d ≡ g j
+  getD-written-in g n x j d h = sym (getD-take n (written g n x) j d h) ∙ ap (λ (l : List A). getD l j d) (take-written g n x) ∙ getD-tab g n j d h
