@@ -1,13 +1,16 @@
 -- Laws of tests in a row: which of them passed is read off the answer; and the code's 0.0 is +0.
-use mathlib.Core.Path.{_≡_, refl}
+use mathlib.Core.Path.{_≡_, refl, sym, ap}
 use mathlib.Core.Bool.{Bool, true, false, true≢false, cond, _||_}
 use lib.Ieee.{Format, binary32, binary64, ofBits}
-use Rattle.numbers.specs.Words.{plusZero}
+use Rattle.numbers.specs.Words.{plusZero, whenDone}
+use Prim.Native.Nat.{_<_, suc, zero, ℕ}
+use mathlib.Core.Logic.{_⊎_, ⊎-elim}
+use native.Mathlib.Omega.{arith}
 
--- a test whose refusal is not the answer did not fail, and what follows it is the answer
-pub passes : {A : Type 0} (t : Bool) {a b d : A} → cond t a b ≡ d → (a ≡ d → ⊥) → (t ≡ false) × (b ≡ d)
-passes true e h = absurd (h e)
-passes false e h = (refl, e)
+-- of answers with their numbers: a refusal is not the answer that is done, so the test before it did not fail, and what follows the test is the answer
+pub passed : {A : Type 0} (number : A → ℕ) (t : Bool) {a b d : A} → cond t a b ≡ d → 0 < number a → number d ≡ 0 → (t ≡ false) × (b ≡ d)
+passed number true e h k = let q = ap number e in absurd (omega arith)
+passed number false e h k = (refl, e)
 
 -- neither of two tests failed
 pub neither : (s t : Bool) → (s || t) ≡ false → (s ≡ false) × (t ≡ false)
@@ -18,3 +21,25 @@ pub literal-zero : (f : Format) → ofBits f 0 ≡ plusZero
 unfolding ofBits
 literal-zero binary32 = refl
 literal-zero binary64 = refl
+
+-- a test that is known
+pub cond-true : {A : Type 0} (t : Bool) (a b : A) → t ≡ true → cond t a b ≡ a
+cond-true true a b e = refl
+cond-true false a b e = absurd (true≢false (sym e))
+
+pub cond-false : {A : Type 0} (t : Bool) (a b : A) → t ≡ false → cond t a b ≡ b
+cond-false t a b e = rw e
+
+-- one of the keys k, k + 1 and so on, `more` of them behind the first: what the other arms of a match know of its key
+abbrev pub Keys : ℕ → ℕ → ℕ → Type 0
+Keys zero k n = n ≡ k
+Keys (suc more) k n = (n ≡ k) ⊎ Keys more (suc k) n
+
+pub key-above : (more k n : ℕ) → 0 < k → Keys more k n → 0 < n
+key-above zero k n h e = omega arith
+key-above (suc more) k n h e = ⊎-elim (λ q. omega arith) (λ q. key-above more (suc k) n (omega arith) q) e
+
+-- on a refusal a lent thing is as it was
+pub kept : {A : Type 0} (number : ℕ) → 0 < number → (new old : A) → old ≡ whenDone number new old
+kept zero h new old = absurd (omega arith)
+kept (suc number) h new old = refl

@@ -1,0 +1,24 @@
+-- The lengths of document 01, for n samples, m pairs and f taps. Definitions only.
+use mathlib.Core.Bool.{Bool, not, _||_}
+use Prim.Native.Nat.{ℕ, _+_, _-_, _*_, _/_, _%_}
+use lib.Dec.{ltb, eqb}
+
+-- tap lists that are odd, empty or over 64
+unfoldable pub badTaps : ℕ → Bool
+badTaps f = not (eqb (f % 2) 0) || eqb f 0 || ltb 64 f
+
+-- m, the numbers in each band
+abbrev pub pairs : ℕ → ℕ → ℕ
+pairs n f = (n + f - 1) / 2
+
+-- whole padding
+abbrev pub wholePad : ℕ → ℕ → ℕ
+wholePad n f = 2 * pairs n f + f - 2 - n
+
+-- the samples with all of it
+abbrev pub paddedLength : ℕ → ℕ → ℕ
+paddedLength n f = 2 * pairs n f + f - 2
+
+-- the places that synthesis gives
+abbrev pub lineLength : ℕ → ℕ → ℕ
+lineLength m f = 2 * m + 2 - f

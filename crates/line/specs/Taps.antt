@@ -1,0 +1,49 @@
+-- Laws of the sums over taps: a loop over the taps makes the sum, and over a padded line the sum is the band's.
+use mathlib.Core.Path.{_≡_, refl, sym, ap, _∙_}
+use mathlib.Core.List.{List}
+use Prim.Native.Nat.{ℕ, zero, suc, _+_, _*_, _≤_, _<_}
+use native.Mathlib.Numerals.{add-one}
+use native.Mathlib.Omega.{arith}
+use lib.ListN.{length, take}
+use lib.Ieee.{Float, nan, Format, add, mul, binary64, ofBits}
+use Rattle.numbers.specs.Words.{at, tab, written}
+use Rattle.numbers.specs.Write.{take-written, getD-tab}
+use Rattle.numbers.specs.Places.{tab-same}
+use Rattle.numbers.specs.Tests.{literal-zero}
+use Rattle.border.specs.declared.Border.{Border}
+use Rattle.line.specs.Lengths.{pairs}
+use Rattle.line.specs.Sums.{dot, analysed}
+use Rattle.line.specs.Lines.{paddedAt, band, tapSum, bandOf}
+
+-- a loop over the taps: as it begins, one tap, and as it ends
+pub sum-start : (taps line : List Float) (from : ℕ) → ofBits binary64 0 ≡ tapSum binary64 taps line from 0
+unfolding tapSum
+sum-start taps line from = literal-zero binary64
+
+pub sum-step : (f : Format) (taps line : List Float) (from j : ℕ) {sum r : Float}
+    → sum ≡ tapSum f taps line from j → r ≡ add f sum (mul f (at taps j) (at line (from + j))) → r ≡ tapSum f taps line from (j + 1)
+unfolding tapSum
+sum-step f taps line from j {sum} e h =
+    h ∙ ap (λ (z : Float). add f z (mul f (at taps j) (at line (from + j)))) e ∙ sym (ap (tapSum f taps line from) (add-one j))
+
+pub sum-end : (f : Format) (taps line : List Float) (from j n : ℕ) {sum : Float} → sum ≡ tapSum f taps line from j → j ≤ n → n ≤ j → sum ≡ tapSum f taps line from n
+sum-end f taps line from j n e h k = let q : j ≡ n = omega arith in rw (← q) e
+
+-- lines that agree under the taps have one sum
+dot-same : (f : Format) (tap x y : ℕ → Float) (n : ℕ) → ((j : ℕ) → j < n → x j ≡ y j) → dot f tap x n ≡ dot f tap y n
+unfolding dot
+dot-same f tap x y zero h = refl
+dot-same f tap x y (suc n) h =
+    ap (λ (v : Float). add f v (mul f (tap n) (x n))) (dot-same f tap x y n (λ j l. h j (omega arith)))
+    ∙ ap (λ (v : Float). add f (dot f tap y n) (mul f (tap n) v)) (h n (omega arith))
+
+-- the bands of the padded line at the front of the scratch are the bands of the samples
+pub of-samples : (f : Format) (b : Border) (taps s line scratch : List Float) (F N : ℕ)
+    → line ≡ take N (written (paddedAt F b s) N scratch) → 2 * pairs (length s) F + F ≤ N + 2
+    → tab (bandOf f taps F line) (pairs (length s) F) ≡ band f taps F b s
+unfolding band tapSum analysed
+of-samples f b taps s line scratch F N e h =
+    tab-same (bandOf f taps F line) (analysed f F (at taps) (paddedAt F b s)) (pairs (length s) F)
+    (λ i l. dot-same f (at taps) (λ j. at line (2 * i + j)) (λ j. paddedAt F b s (2 * i + j)) F
+    (λ j k. ap (λ (y : List Float). at y (2 * i + j)) (e ∙ take-written (paddedAt F b s) N scratch)
+    ∙ getD-tab (paddedAt F b s) N (2 * i + j) nan (omega arith)))

@@ -1,0 +1,1 @@
+-- Laws of what the entries promise: any two outcomes that a promise admits are equal.
