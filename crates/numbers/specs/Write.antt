@@ -104,6 +104,16 @@ module _ {A : Type 0} where
       ∙ set-append-add (take s x) (written g i (drop s x)) i v
       ∙ ap (λ (y : List A). take s x ++ y) m
 
+  -- the same by the place x itself
+  pub placed-turn : (g : ℕ → A) (s x : ℕ) (old : List A) {l : List A} {v : A} → s ≤ x → x < length old → l ≡ placed (λ k. g (s + k)) s (x - s) old → v ≡ g x
+      → set l x v ≡ placed (λ k. g (s + k)) s (x + 1 - s) old
+  placed-turn g s x old {l} {v} h k e q =
+      let there : s + (x - s) ≡ x = omega arith in
+      let next : x - s + 1 ≡ x + 1 - s = omega arith in
+      ap (λ (i : ℕ). set l i v) (sym there)
+      ∙ placed-step (λ k. g (s + k)) s (x - s) old (omega arith) e (q ∙ ap g (sym there))
+      ∙ ap (λ (i : ℕ). placed (λ k. g (s + k)) s i old) next
+
   pub placed-end : (g : ℕ → A) (s i n : ℕ) (x : List A) {l : List A} → l ≡ placed g s i x → i ≤ n → n ≤ i → l ≡ placed g s n x
   placed-end g s i n x e h k = let q : i ≡ n = omega arith in rw (← q) e
 
