@@ -5,7 +5,7 @@ use Prim.Native.Nat.{_+_, _-_, _<_, _≤_, suc, zero, ℕ}
 use Rattle.border.specs.declared.Border.{Border}
 use Rattle.convolve.specs.Sums.{convolved, kernelSum, placeOf, convolution}
 use Rattle.numbers.specs.Words.{at, placed, tab, written, plusZero}
-use Rattle.numbers.specs.Write.{written-step, getD-placed-before, getD-tab, length-placed, length-tab, length-written, take-written, tab-getD, written-all}
+use Rattle.numbers.specs.Write.{getD-placed-before, getD-tab, length-placed, length-tab, length-written, take-written, tab-getD, written-all, written-two}
 use lib.ListN.{length, set, getD, take}
 use mathlib.Core.List.{List}
 use native.Mathlib.Nat.{add-zero}
@@ -40,14 +40,11 @@ sum-end f kernel line x i e h l = let q : i ≡ length kernel = omega arith in e
 pub written-four : {A : Type 0} (g : ℕ → A) (x : ℕ) (old : List A) {l : List A} {a b c d : A} → x + 3 < length old → l ≡ written g x old
     → a ≡ g x → b ≡ g (x + 1) → c ≡ g (x + 2) → d ≡ g (x + 3)
     → set (set (set (set l x a) (x + 1) b) (x + 2) c) (x + 3) d ≡ written g (x + 4) old
-written-four {A} g x old {l} {a} {b} {c} {d} h e ea eb ec ed =
-    let two : x + 1 + 1 ≡ x + 2 = omega arith in
+written-four g x old {l} {a} {b} {c} {d} h e ea eb ec ed =
     let three : x + 2 + 1 ≡ x + 3 = omega arith in
-    let four : x + 3 + 1 ≡ x + 4 = omega arith in
-    let w₁ = written-step g x old (omega arith) e ea in
-    let w₂ = written-step g (x + 1) old (omega arith) w₁ eb ∙ ap (λ (k : ℕ). written g k old) two in
-    let w₃ = written-step g (x + 2) old (omega arith) w₂ ec ∙ ap (λ (k : ℕ). written g k old) three in
-    written-step g (x + 3) old (omega arith) w₃ ed ∙ ap (λ (k : ℕ). written g k old) four
+    let four : x + 2 + 2 ≡ x + 4 = omega arith in
+    let w = written-two g x old (omega arith) e ea eb in
+    ap (λ (k : ℕ). set (set (set (set l x a) (x + 1) b) (x + 2) c) k d) (sym three) ∙ written-two g (x + 2) old (omega arith) w ec (ed ∙ ap g (sym three)) ∙ ap (λ (k : ℕ). written g k old) four
 
 -- the first x places, and then the rest, are all of them
 pub written-rest : {A : Type 0} (nothing : A) (g : ℕ → A) (x : ℕ) (old : List A) {l : List A} → x ≤ length old → l ≡ written g x old

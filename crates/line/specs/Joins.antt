@@ -1,5 +1,5 @@
 -- Laws of synthesis pair after pair: each pair moves the places that it reaches by the sum's own step and no others, so every place comes to its sum.
-use mathlib.Core.Path.{_≡_, refl, sym, ap, _∙_}
+use mathlib.Core.Path.{_≡_, refl, sym, ap, _∙_, subst}
 use mathlib.Core.Bool.{Bool, true, false, cond, _&&_}
 use mathlib.Core.List.{List}
 use Prim.Native.Nat.{ℕ, zero, suc, _+_, _-_, _*_, _≤_, _<_, min}
@@ -17,8 +17,8 @@ use Rattle.numbers.specs.Write.{length-tab, getD-tab}
 use Rattle.numbers.specs.Places.{getD-part, lent-length, lent-before, lent-in, lent-behind, tab-same}
 use Rattle.numbers.specs.Tests.{cond-true, cond-false}
 use Rattle.line.specs.Sums.{meets, onto, joined}
-use Rattle.line.specs.Lines.{synthesised, spreadAt}
-use Rattle.line.specs.Works.{joinedFrom, joinedPairs}
+use Rattle.line.specs.Lines.{synthesised}
+use Rattle.line.specs.Works.{joinedFrom, joinedPairs, spreadAt}
 use native.Mathlib.Nat.{add-suc, add-zero}
 
 meets-yes : (F P i : ℕ) → 2 * i ≤ P → P < 2 * i + F → meets F P i ≡ true
@@ -91,6 +91,9 @@ module _ (f : Format) (F : ℕ) (low high a d : List Float) where
 
   pub joining-none : (first : ℕ) (old : List Float) → Joining first old old first
   joining-none first old = record { kept = refl; every = λ p h. sym (from-none f F (at low) (at high) (at a) (at d) (p + (F - 2)) first (at old p) first (omega arith)) }
+
+  pub joining-at : {first n k : ℕ} {old new : List Float} → n ≡ k → Joining first old new n → Joining first old new k
+  joining-at {first} {n} {k} {old} {new} e j = subst (λ (i : ℕ). Joining first old new i) e j
 
   pub joining-all : (first end n : ℕ) (old new : List Float) → n ≤ end → end ≤ n → Joining first old new n → new ≡ joinedPairs f F low high a d first end old
   unfolding joinedPairs

@@ -3,7 +3,8 @@ ghost use mathlib.Core.Path.{_≡_};
 ghost use Rattle.line.specs.Analyses.{answerOf, Analysed};
 use crate::Bank;
 use crate::sizes::bad_taps;
-use crate::work::bands;
+use crate::work::bands::bands;
+use crate::work::bands::weave;
 use border::pad::pad;
 
 pub enum Analysis {
@@ -69,6 +70,7 @@ pub fn analyse(
     pad(border, line, left, need - n - left, scratch);
     let low = bank.low;
     let high = bank.high;
-    bands(&low, &high, f, &scratch[..need], approx, detail);
+    let taps = weave(&low, &high, f);
+    bands(&taps, f, &scratch[..need], approx, detail);
     Analysis::Done
 }

@@ -3,7 +3,7 @@ ghost use mathlib.Core.Path.{_≡_};
 ghost use Rattle.line.specs.Syntheses.{answerOf, Synthesised};
 use crate::Bank;
 use crate::sizes::bad_taps;
-use crate::work::join;
+use crate::work::joins::join;
 
 pub enum Synthesis {
     Done,

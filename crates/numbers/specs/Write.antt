@@ -1,10 +1,10 @@
 -- Laws of lists that a loop writes, one place a turn: how it begins, one turn, how it ends, and what is then read.
 use mathlib.Core.Path.{_≡_, refl, sym, ap, _∙_}
-use mathlib.Core.List.{List, [], _∷_, _++_, append-assoc, append-nil}
+use mathlib.Core.List.{List, [], _∷_, _++_, append-nil}
 use Prim.Native.Nat.{ℕ, zero, suc, _+_, _-_, _≤_, _<_}
 use native.Mathlib.Numerals.{add-one}
 use native.Mathlib.Omega.{arith}
-use lib.ListN.{length, getD, take, drop, set, length-append, length-drop, length-set, take-append-drop, List·getD-append}
+use lib.ListN.{length, getD, take, drop, set, length-append, length-drop, take-append-drop, List·getD-append}
 use lib.Seq.{drop-cons, set-at, getD-at, take-at, drop-at, drop-length, append-snoc, ext-getD, length-take-le, getD-take, getD-drop, drop-drop}
 use mathlib.Core.Logic.{⊎-elim}
 use native.Mathlib.Nat.{eq-or-lt-of-le, le-of-suc-le-suc, zero-add, suc-add}
@@ -55,6 +55,13 @@ module _ {A : Type 0} where
   pub written-step : (g : ℕ → A) (i : ℕ) (x : List A) {l : List A} {v : A} → i < length x → l ≡ written g i x → v ≡ g i
       → set l i v ≡ written g (i + 1) x
   written-step g i x h e q = cc (written-more g i x h)
+
+  -- two places a turn
+  pub written-two : (g : ℕ → A) (i : ℕ) (x : List A) {l : List A} {u v : A} → i + 1 < length x → l ≡ written g i x → u ≡ g i → v ≡ g (i + 1)
+      → set (set l i u) (i + 1) v ≡ written g (i + 2) x
+  written-two g i x h e p q =
+      let two : i + 1 + 1 ≡ i + 2 = omega arith in
+      written-step g (i + 1) x h (written-step g i x (omega arith) e p) q ∙ ap (λ (k : ℕ). written g k x) two
 
   pub written-end : (g : ℕ → A) (i n : ℕ) (x : List A) {l : List A} → l ≡ written g i x → i ≤ n → n ≤ i → l ≡ written g n x
   written-end g i n x e h k = let q : i ≡ n = omega arith in rw (← q) e

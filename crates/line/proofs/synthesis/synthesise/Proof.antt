@@ -10,7 +10,7 @@ use Rattle.line.proofs.synthesis.synthesise.Tie as tie
 use Rattle.line.proofs.synthesis.synthesise.Reads as reads
 use Rattle.line.proofs.synthesis.synthesise.Lts as lts
 use Rattle.line.proofs.synthesis.synthesis_answer.Reads as synthesis-answer-reads
-use Rattle.line.proofs.work.join.Reads as join-reads
+use Rattle.line.proofs.work.joins.join.Reads as join-reads
 use Prim.Native.Nat.{_<_}
 use Rattle.line.specs.Sums.{joined}
 use Rattle.line.specs.Tested.{joinable}

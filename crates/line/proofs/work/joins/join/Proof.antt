@@ -1,12 +1,12 @@
--- `line::work::join` meets its contract: three runs of pairs, one behind the other, are all of them.
+-- `line::work::joins::join` meets its contract: three runs of pairs, one behind the other, are all of them.
 use borrow.Author.Needs.{needs}
-use Rattle.line.proofs.work.join.Statement.{statement}
-use Rattle.line.proofs.work.join.Tie as tie
-use Rattle.line.proofs.work.join.Reads as reads
-use Rattle.line.proofs.work.join.Lts as lts
-use Rattle.line.proofs.work.edge.Reads as edge-reads
-use Rattle.line.proofs.work.inner.Reads as inner-reads
-use Rattle.line.proofs.work.most.Reads as most-reads
+use Rattle.line.proofs.work.joins.join.Statement.{statement}
+use Rattle.line.proofs.work.joins.join.Tie as tie
+use Rattle.line.proofs.work.joins.join.Reads as reads
+use Rattle.line.proofs.work.joins.join.Lts as lts
+use Rattle.line.proofs.work.joins.edge.Reads as edge-reads
+use Rattle.line.proofs.work.joins.inner.Reads as inner-reads
+use Rattle.line.proofs.work.joins.most.Reads as most-reads
 use Prim.Native.Nat.{_-_, _/_, max, ℕ, _≤_}
 use Rattle.line.specs.Works.{InnerPairs, Joinable, joinedPairs}
 use Rattle.numbers.specs.Tests.{kept}
@@ -54,23 +54,18 @@ inner-requires c κs = let e = c .before .before .before in
     still (inner-pairs _ _ _ _ _ _ (s .pre) refl (e .before .before .most .ensures)) (e .edge .kept .1 .1 .1 .1 .1 .0)
 
 edge-requires-2 : tie.Need-edge-requires-2
-edge-requires-2 c κs = let i = c .before .before .before in
-    let e = i .before .before .before .before in
-    let s = e .before .before .before .before .before .before in
+edge-requires-2 c κs = let i = c .before .before .before in let e = i .before .before .before .before in let s = e .before .before .before .before .before .before in
     let p = still (inner-pairs _ _ _ _ _ _ (s .pre) refl (e .before .before .most .ensures)) (i .inner .kept .1 .1 .1 .1 .1 .0 ∙ e .edge .kept .1 .1 .1 .1 .1 .0) .some in
-    record { all = p .all; rising = p .last; last = omega arith }
+    record { all = p .all; rising = omega (arith, i .inner .ensures .1, p .last); last = omega arith }
 
 same-length : tie.Need-same-length
 same-length c = search needs
 
 returns : tie.Need-returns
-returns c = let d = c .before .before in
-    let i = d .before .before .before .before in
-    let e = i .before .before .before .before in
-    let s = e .before .before .before .before .before .before in
+returns c = let d = c .before .before in let i = d .before .before .before .before in let e = i .before .before .before .before in let s = e .before .before .before .before .before .before in
     let p = inner-pairs _ _ _ _ _ _ (s .pre) refl (e .before .before .most .ensures) .some in
     let a = s .args in
-    three (a .f) (now (a .low)) (now (a .high)) (now (a .approx)) (now (a .detail)) _ _ (now (a .out)) (p .rising) (p .last) (e .edge .ensures) (i .inner .ensures) (d .edge2 .ensures)
+    three (a .f) (now (a .low)) (now (a .high)) (now (a .approx)) (now (a .detail)) _ _ (now (a .out)) (i .inner .ensures .0) (omega (arith, i .inner .ensures .1, p .last)) (e .edge .ensures) (i .inner .ensures .2) (d .edge2 .ensures)
 
 pub join-spec : {M : Type 1} → statement M
 join-spec =

@@ -1,11 +1,10 @@
--- `line::work::spread` meets its contract: the loop adds the pair's products to the part from the front, one place a turn.
+-- `line::work::joins::spread` meets its contract: the loop adds the pair's products to the part from the front, one place a turn.
 use borrow.Author.Needs.{needs}
-use Rattle.line.proofs.work.spread.Statement.{statement}
-use Rattle.line.proofs.work.spread.Tie as tie
-use Rattle.line.proofs.work.spread.Reads as reads
-use Rattle.line.proofs.work.spread.Lts as lts
+use Rattle.line.proofs.work.joins.spread.Statement.{statement}
+use Rattle.line.proofs.work.joins.spread.Tie as tie
+use Rattle.line.proofs.work.joins.spread.Reads as reads
+use Rattle.line.proofs.work.joins.spread.Lts as lts
 use Prim.Native.Nat.{_+_, _-_, _≤_}
-use Rattle.line.specs.Lines.{spreadAt}
 use Rattle.line.specs.Sums.{onto}
 use Rattle.numbers.specs.Places.{getD-written-behind}
 use Rattle.numbers.specs.Words.{at, written}
@@ -16,6 +15,7 @@ use lib.ListN.{length, length-set}
 use mathlib.Core.List.{List}
 use mathlib.Core.Path.{_∙_, _≡_, ap}
 use native.Mathlib.Omega.{arith}
+use Rattle.line.specs.Works.{spreadAt}
 
 abbrev Inv-loop : tie.InvT-loop
 Inv-loop low high from a d part₀ j₀ part j =

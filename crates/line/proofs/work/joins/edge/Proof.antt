@@ -1,12 +1,12 @@
--- `line::work::edge` meets its contract: after the pairs up to i every place holds its sum over them, and one more pair moves the part that it reaches.
+-- `line::work::joins::edge` meets its contract: after the pairs up to i every place holds its sum over them, and one more pair moves the part that it reaches.
 use borrow.Author.Needs.{needs}
-use Rattle.line.proofs.work.edge.Statement.{statement}
-use Rattle.line.proofs.work.edge.Tie as tie
-use Rattle.line.proofs.work.edge.Reads as reads
-use Rattle.line.proofs.work.edge.Lts as lts
-use Rattle.line.proofs.work.least.Reads as least-reads
-use Rattle.line.proofs.work.less.Reads as less-reads
-use Rattle.line.proofs.work.spread.Reads as spread-reads
+use Rattle.line.proofs.work.joins.edge.Statement.{statement}
+use Rattle.line.proofs.work.joins.edge.Tie as tie
+use Rattle.line.proofs.work.joins.edge.Reads as reads
+use Rattle.line.proofs.work.joins.edge.Lts as lts
+use Rattle.line.proofs.work.joins.least.Reads as least-reads
+use Rattle.line.proofs.work.joins.less.Reads as less-reads
+use Rattle.line.proofs.work.joins.spread.Reads as spread-reads
 use Prim.Native.Nat.{_-_, _≤_, _*_, _+_, _<_, min, ℕ}
 use Rattle.line.specs.Joins.{Joining, joining-all, joining-none, joining-next}
 use lib.Ieee.{binary64}
