@@ -1,8 +1,8 @@
 // The border rule: which sample stands at a place of a line, or zero.
 ghost use mathlib.Core.Path.{_≡_};
-ghost use Prim.Native.Nat.{ℕ, _<_};
+ghost use Prim.Native.Nat.{ℕ, _-_, _<_, _≤_};
 ghost use lib.ListN.{length};
-ghost use Rattle.numbers.specs.Words.{plusZero};
+ghost use Rattle.numbers.specs.Words.{longest, plusZero};
 ghost use Rattle.border.specs.Rule.{nearest, modulo, across, outside, source, placeIn, valueOf, padded};
 ghost use Rattle.border.specs.Reach.{Past, Near, Reach, Within, Asked};
 use crate::Border;
@@ -33,12 +33,20 @@ pub fn nearest(place: Place, n: usize) -> usize
 // The place modulo n, never negative.
 pub fn modulo(place: Place, n: usize) -> usize
     requires { ⌜ 0 < n ⌝ }
-    ensures { λ r. ⌜ r ≡ modulo place n ⌝ }
+    ensures { λ r. ⌜ (r ≡ modulo place n) × (r < n) ⌝ }
 {
     match place {
         Place::Before(k) => n - 1 - k % n,
         Place::At(i) => i % n,
     }
+}
+
+// The mirror border, which begins anew with every n places.
+pub fn reflect(place: Place, n: usize) -> usize
+    requires { ⌜ (0 < n) × (n ≤ longest) ⌝ }
+    ensures { λ r. ⌜ r ≡ n - 1 - modulo place n ⌝ }
+{
+    n - 1 - modulo(place, n)
 }
 
 // About an end that is not repeated.
@@ -60,7 +68,7 @@ pub fn outside(border: Border, place: Place, n: usize) -> Source
     match border {
         Border::Clamp => Source::Sample(nearest(place, n)),
         Border::Wrap => Source::Sample(modulo(place, n)),
-        Border::Reflect => Source::Sample(n - 1 - modulo(place, n)),
+        Border::Reflect => Source::Sample(reflect(place, n)),
         Border::Zeros => Source::Zero,
         Border::Reflect101 => {
             if n == 1 {

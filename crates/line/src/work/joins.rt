@@ -42,8 +42,7 @@ pub fn spread(low: &[f64; 64], high: &[f64; 64], from: usize, a: f64, d: f64, pa
 {
     let mut j = 0usize;
     while j < part.len() {
-        let z = part[j] + high[from + j] * d;
-        part[j] = z + low[from + j] * a;
+        part[j] = part[j] + high[from + j] * d + low[from + j] * a;
         j += 1;
     }
 }

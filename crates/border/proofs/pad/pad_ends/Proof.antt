@@ -10,6 +10,7 @@ use Rattle.border.proofs.pad.pad_ends.Lts as lts
 use Rattle.border.proofs.pad.fill.Reads as fill-reads
 use Rattle.border.specs.Pads.{ends, fill-left, fill-right}
 use Rattle.border.specs.Reach.{filled}
+use Rattle.numbers.specs.Tests.{kept}
 
 fill-requires : tie.Need-fill-requires
 fill-requires c κs = let s = c .before .before in fill-left _ (s .pre .0) (s .pre .1)

@@ -1,3 +1,4 @@
+-- `border::rule::modulo` meets its contract: a place by its sign; a remainder is below its divisor.
 use Rattle.border.specs.declared.rule.Place.{Place}
 use native.Mathlib.Omega.{arith}
 use mathlib.Core.Path.{sym, ap}
@@ -28,10 +29,10 @@ rem-result-2 : tie.Need-rem-result-2
 rem-result-2 c = search needs
 
 returns : tie.Need-returns
-returns c = sym (ap (λ (x : Place). modulo x (c .before .before .before .args .n)) (c .before .place .given .1))
+returns c = let s = c .before .before .before in (sym (ap (λ (x : Place). modulo x (s .args .n)) (c .before .place .given .1)), omega (arith, mod-low (c .before .place .given .0 .0) (s .args .n) (s .pre)))
 
 returns-2 : tie.Need-returns-2
-returns-2 c = sym (ap (λ (x : Place). modulo x (c .before .before .before .args .n)) (c .before .place2 .given .1))
+returns-2 c = let s = c .before .before .before in (sym (ap (λ (x : Place). modulo x (s .args .n)) (c .before .place2 .given .1)), mod-low (c .before .place2 .given .0 .0) (s .args .n) (s .pre))
 
 pub modulo-spec : {M : Type 1} → statement M
 modulo-spec =

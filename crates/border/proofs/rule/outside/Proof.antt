@@ -1,7 +1,5 @@
+-- `border::rule::outside` meets its contract: a border by its name.
 use Rattle.border.specs.declared.rule.Source.the-variants.{Sample}
-use native.Mathlib.Omega.{arith}
-use Prim.Native.Nat.{ℕ, _-_, _<_}
-use mathlib.Core.Path.{ap, _∙_}
 use borrow.Author.Needs.{needs}
 use Rattle.border.proofs.rule.outside.Statement.{statement}
 use Rattle.border.proofs.rule.outside.Tie as tie
@@ -10,8 +8,12 @@ use Rattle.border.proofs.rule.outside.Lts as lts
 use Rattle.border.proofs.rule.across.Reads as across-reads
 use Rattle.border.proofs.rule.modulo.Reads as modulo-reads
 use Rattle.border.proofs.rule.nearest.Reads as nearest-reads
+use Rattle.border.proofs.rule.reflect.Reads as reflect-reads
+use Prim.Native.Nat.{_<_}
 use Rattle.border.specs.Rule.{across, modulo, nearest}
-use Rattle.border.specs.Rules.{across-far, across-one, modulo-low, named}
+use Rattle.border.specs.Rules.{across-far, across-one, named}
+use mathlib.Core.Path.{_∙_, ap}
+use native.Mathlib.Omega.{arith}
 
 enum-told : tie.Need-enum-told
 enum-told c = search needs
@@ -28,14 +30,8 @@ modulo-requires c κs = search needs
 enum-told-3 : tie.Need-enum-told-3
 enum-told-3 c = search needs
 
-sub-t7 : tie.Need-sub-t7
-sub-t7 c = search needs
-
-modulo-requires-2 : tie.Need-modulo-requires-2
-modulo-requires-2 c κs = search needs
-
-sub-t9 : tie.Need-sub-t9
-sub-t9 c = let s = c .before .before .before in omega (arith, c .modulo2 .ensures, modulo-low (s .args .place) (s .args .n) (s .pre .0 .some))
+reflect-requires : tie.Need-reflect-requires
+reflect-requires c κs = search needs
 
 enum-told-4 : tie.Need-enum-told-4
 enum-told-4 c = search needs
@@ -53,10 +49,10 @@ returns-2 : tie.Need-returns-2
 returns-2 c = let s = c .before .before .before in ap Sample (c .nearest .ensures) ∙ named (s .args .place) (s .args .n) (c .before .enum-told .given .1)
 
 returns-3 : tie.Need-returns-3
-returns-3 c = let s = c .before .before .before in ap Sample (c .modulo .ensures) ∙ named (s .args .place) (s .args .n) (c .before .enum-told2 .given .1)
+returns-3 c = let s = c .before .before .before in ap Sample (c .modulo .ensures .0) ∙ named (s .args .place) (s .args .n) (c .before .enum-told2 .given .1)
 
 returns-4 : tie.Need-returns-4
-returns-4 c = let s = c .before .before .before in ap (λ (k : ℕ). Sample (s .args .n - 1 - k)) (c .modulo2 .ensures) ∙ named (s .args .place) (s .args .n) (c .before .enum-told3 .given .1)
+returns-4 c = let s = c .before .before .before in ap Sample (c .reflect .ensures) ∙ named (s .args .place) (s .args .n) (c .before .enum-told3 .given .1)
 
 returns-5 : tie.Need-returns-5
 returns-5 c = search needs
@@ -73,9 +69,7 @@ outside-spec =
     enum-told-2
     modulo-requires
     enum-told-3
-    sub-t7
-    modulo-requires-2
-    sub-t9
+    reflect-requires
     enum-told-4
     enum-told-5
     returns

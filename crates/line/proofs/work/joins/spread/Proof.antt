@@ -6,6 +6,7 @@ use Rattle.line.proofs.work.joins.spread.Reads as reads
 use Rattle.line.proofs.work.joins.spread.Lts as lts
 use Prim.Native.Nat.{_+_, _-_, _≤_}
 use Rattle.line.specs.Sums.{onto}
+use Rattle.line.specs.Works.{spreadAt}
 use Rattle.numbers.specs.Places.{getD-written-behind}
 use Rattle.numbers.specs.Words.{at, written}
 use Rattle.numbers.specs.Write.{written-full, written-start, written-step}
@@ -15,7 +16,6 @@ use lib.ListN.{length, length-set}
 use mathlib.Core.List.{List}
 use mathlib.Core.Path.{_∙_, _≡_, ap}
 use native.Mathlib.Omega.{arith}
-use Rattle.line.specs.Works.{spreadAt}
 
 abbrev Inv-loop : tie.InvT-loop
 Inv-loop low high from a d part₀ j₀ part j =
@@ -27,32 +27,32 @@ abbrev μ-loop : tie.MeasureT-loop
 loop-holds : tie.Need-loop-holds Inv-loop μ-loop
 loop-holds c = (search needs, search needs, written-start _ _)
 
-mul-z : tie.Need-mul-z Inv-loop μ-loop
-mul-z c = search needs
+mul-part : tie.Need-mul-part Inv-loop μ-loop
+mul-part c = search needs
 
-slice-read-z : tie.Need-slice-read-z Inv-loop μ-loop
-slice-read-z c = search needs
-
-add-z : tie.Need-add-z Inv-loop μ-loop
-add-z c = search needs
-
-mul-z-2 : tie.Need-mul-z-2 Inv-loop μ-loop
-mul-z-2 c = search needs
-
-element-copy-out-z : tie.Need-element-copy-out-z Inv-loop μ-loop
-element-copy-out-z c = search needs
+slice-read-part : tie.Need-slice-read-part Inv-loop μ-loop
+slice-read-part c = search needs
 
 add-part : tie.Need-add-part Inv-loop μ-loop
 add-part c = search needs
 
-mul-part : tie.Need-mul-part Inv-loop μ-loop
-mul-part c = search needs
+mul-part-2 : tie.Need-mul-part-2 Inv-loop μ-loop
+mul-part-2 c = search needs
 
 element-copy-out-part : tie.Need-element-copy-out-part Inv-loop μ-loop
 element-copy-out-part c = search needs
 
-mul-part-2 : tie.Need-mul-part-2 Inv-loop μ-loop
-mul-part-2 c = search needs
+add-part-2 : tie.Need-add-part-2 Inv-loop μ-loop
+add-part-2 c = search needs
+
+mul-part-3 : tie.Need-mul-part-3 Inv-loop μ-loop
+mul-part-3 c = search needs
+
+element-copy-out-part-2 : tie.Need-element-copy-out-part-2 Inv-loop μ-loop
+element-copy-out-part-2 c = search needs
+
+mul-part-4 : tie.Need-mul-part-4 Inv-loop μ-loop
+mul-part-4 c = search needs
 
 slice-write-part : tie.Need-slice-write-part Inv-loop μ-loop
 slice-write-part c = search needs
@@ -89,15 +89,15 @@ spread-spec =
     Inv-loop
     μ-loop
     loop-holds
-    mul-z
-    slice-read-z
-    add-z
-    mul-z-2
-    element-copy-out-z
-    add-part
     mul-part
-    element-copy-out-part
+    slice-read-part
+    add-part
     mul-part-2
+    element-copy-out-part
+    add-part-2
+    mul-part-3
+    element-copy-out-part-2
+    mul-part-4
     slice-write-part
     add-j
     loop-less

@@ -1,0 +1,3 @@
+-- Document 01's worked examples, each a statement about the definitions that the entries' promises cite.
+pub mod Lines
+pub mod Kernels
