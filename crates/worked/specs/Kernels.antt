@@ -1,20 +1,18 @@
 -- Document 01's examples of convolution, in the document's own numbers: each is computed.
 use mathlib.Core.Path.{_≡_, refl}
 use mathlib.Core.Bool.{true}
-use mathlib.Core.List.{List, [], _∷_, map}
+use mathlib.Core.List.{List, [], _∷_}
 use Prim.Native.Nat.{ℕ}
 use lib.IntN.{ℤ, pos, negsuc}
 use lib.Ieee.{Float, fin, binary64, ofInt, add, mul}
 use Rattle.numbers.specs.Words.{tab}
+use Rattle.worked.specs.Whole.{floats}
 use Rattle.border.specs.declared.Border.the-variants.{Clamp, Zeros}
 use Rattle.border.specs.Rule.{source, padded}
-use Rattle.convolve.specs.Pads.{beyond, leftPad}
-use Rattle.convolve.specs.Sums.{convolved, convolution}
-use Rattle.convolve.specs.declared.convolution.Convolution.the-variants.{MisconfiguredFilterCenter}
-use Rattle.convolve.specs.Convolutions.{answerOf, numberOf, valuesOf}
-
-abbrev floats : List ℤ → List Float
-floats l = map (ofInt binary64) l
+use Rattle.convolution.specs.Pads.{beyond, leftPad}
+use Rattle.convolution.specs.Sums.{convolved, convolution}
+use Rattle.convolution.specs.declared.Convolution.the-variants.{MisconfiguredFilterCenter}
+use Rattle.convolution.specs.Convolutions.{answerOf, numberOf, valuesOf}
 
 -- P9: Zeros, 1 2 3 4 with kernel 1 10 100, about a centre
 abbrev about : ℤ → List Float

@@ -1,25 +1,24 @@
 -- Document 01's examples of one line and its borders, in the document's own numbers: each is computed.
 use mathlib.Core.Path.{_≡_, refl}
 use mathlib.Core.Bool.{true}
-use mathlib.Core.List.{List, [], _∷_, map}
+use mathlib.Core.List.{List, [], _∷_}
 use Prim.Native.Nat.{ℕ, _/_, _-_}
 use lib.IntN.{ℤ, pos, negsuc}
 use lib.ListN.{replicate}
 use lib.Ieee.{Float, fin, binary64, ofInt, add, mul, neg}
 use Rattle.numbers.specs.Words.{plusZero, tab}
+use Rattle.worked.specs.Whole.{floats}
 use Rattle.border.specs.declared.Border.{Border}
 use Rattle.border.specs.declared.Border.the-variants.{Clamp, Wrap, Reflect, Zeros, Reflect101}
 use Rattle.border.specs.Rule.{source, padded}
-use Rattle.line.specs.Lengths.{badTaps, pairs, wholePad, paddedLength, lineLength}
-use Rattle.line.specs.Sums.{dot, analysed, joined}
-use Rattle.line.specs.Lines.{band, synthesised}
-use Rattle.line.specs.Banks.{mirror}
-use Rattle.line.specs.declared.analysis.Analysis.the-variants.{MinFilterSize}
-use Rattle.line.specs.Analyses.{answerOf, numberOf, valuesOf}
-
--- whole numbers as floats
-abbrev floats : List ℤ → List Float
-floats l = map (ofInt binary64) l
+use Rattle.bank.specs.Lengths.{badTaps, pairs, wholePad, paddedLength, lineLength}
+use Rattle.bank.specs.Banks.{mirror}
+use Rattle.analysis.specs.Sums.{dot, analysed}
+use Rattle.analysis.specs.Lines.{band}
+use Rattle.analysis.specs.declared.Analysis.the-variants.{MinFilterSize}
+use Rattle.analysis.specs.Analyses.{answerOf, numberOf, valuesOf}
+use Rattle.synthesis.specs.Sums.{joined}
+use Rattle.synthesis.specs.Lines.{synthesised}
 
 -- P1: four taps. Four samples give 3, padded by 2 and 2; five give 4, padded by 2 and 3, and back to 6
 p1-even : (pairs 4 4 ≡ 3) × (wholePad 4 4 / 2 ≡ 2) × (wholePad 4 4 - wholePad 4 4 / 2 ≡ 2)

@@ -1,0 +1,51 @@
+-- Laws of the tests: where an answer is done every test passed, which gives the work what it asks for.
+use mathlib.Core.Path.{_≡_, refl}
+use Rattle.analysis.specs.declared.Analysis.the-variants.{Done}
+use Rattle.analysis.specs.Analyses.{answerOf, numberOf}
+use Prim.Native.Nat.{_≤_, ℕ, _*_, _+_, _-_}
+use Rattle.numbers.specs.Tests.{passed}
+use Rattle.numbers.specs.Words.{longest}
+use borrow.Author.Tests.{eqb-true, ltb-false, not-false}
+use lib.Dec.{eqb, ltb, lit<}
+use mathlib.Core.Bool.{not}
+use native.Mathlib.Omega.{arith}
+use Rattle.border.specs.declared.Border.{Border}
+use Rattle.border.specs.Reach.{Paddable}
+use Rattle.bank.specs.Lengths.{badTaps, paddedLength, pairs}
+use Rattle.bank.specs.Tested.{Analysable, good-taps}
+
+pub record Analysing (f n a d s : ℕ) : Type 0 where
+  pub ready : Analysable n f
+  pub approxed : a ≡ pairs n f
+  pub detailed : d ≡ pairs n f
+  pub room : paddedLength n f ≤ s
+
+pub analysing : (f n a d s : ℕ) → answerOf f n a d s ≡ Done → Analysing f n a d s
+unfolding answerOf
+analysing f n a d s e =
+    let p1 = passed numberOf (badTaps f) e (lit< tt) refl in
+    let p2 = passed numberOf (ltb longest n) (p1 .1) (lit< tt) refl in
+    let p3 = passed numberOf (ltb n f) (p2 .1) (lit< tt) refl in
+    let p4 = passed numberOf (not (eqb a (pairs n f))) (p3 .1) (lit< tt) refl in
+    let p5 = passed numberOf (not (eqb d (pairs n f))) (p4 .1) (lit< tt) refl in
+    let p6 = passed numberOf (ltb s (paddedLength n f)) (p5 .1) (lit< tt) refl in
+    record {
+      ready = record { taps = good-taps f (p1 .0); limit = ltb-false longest n (p2 .0); enough = ltb-false n f (p3 .0) };
+      approxed = eqb-true a (pairs n f) (not-false _ (p4 .0));
+      detailed = eqb-true d (pairs n f) (not-false _ (p5 .0));
+      room = ltb-false s (paddedLength n f) (p6 .0);
+    }
+
+-- the pads of a line whose bands have m places: they may be asked for, and with the line they fill the padded length
+pub pads : (b : Border) (n f m : ℕ) → Analysable n f → m ≡ pairs n f → Paddable b n (f - 2) (2 * m + (f - 2) - n - (f - 2))
+pads b n f m p e = record {
+  some = omega (arith, p .taps .two, p .enough);
+  few = p .limit;
+  near = λ q h. (omega (arith, p .taps .two, p .enough), omega (arith, p .taps .two, p .enough, p .taps .even));
+}
+
+pub whole : (n f m : ℕ) → Analysable n f → m ≡ pairs n f → f - 2 + n + (2 * m + (f - 2) - n - (f - 2)) ≡ paddedLength n f
+whole n f m p e = omega (arith, p .taps .two, p .enough)
+
+pub needed : (n f m : ℕ) → Analysable n f → m ≡ pairs n f → 2 * m + (f - 2) ≡ paddedLength n f
+needed n f m p e = omega (arith, p .taps .two, p .enough)

@@ -1,0 +1,78 @@
+// Analysis of one line.
+pub mod work;
+
+ghost use mathlib.Core.Path.{_≡_};
+ghost use Rattle.analysis.specs.Analyses.{answerOf, Analysed};
+use crate::work::bands;
+use crate::work::weave;
+use bank::Bank;
+use bank::sizes::bad_taps;
+use border::pad::pad;
+
+pub enum Analysis {
+    Done,
+    MinFilterSize { n: usize, f: usize },
+    ApproxDetailsSize(usize),
+    ScratchSize { need: usize, have: usize },
+    Limit,
+    Taps,
+}
+
+// The tests, on lengths alone.
+pub fn analysis_answer(f: usize, n: usize, approx: usize, detail: usize, scratch: usize) -> Analysis
+    ensures { λ r. ⌜ r ≡ answerOf f n approx detail scratch ⌝ }
+{
+    if bad_taps(f) {
+        return Analysis::Taps;
+    }
+    if 1048576 < n {
+        return Analysis::Limit;
+    }
+    if n < f {
+        return Analysis::MinFilterSize { n, f };
+    }
+    let m = (n + f - 1) / 2;
+    if approx != m {
+        return Analysis::ApproxDetailsSize(approx);
+    }
+    if detail != m {
+        return Analysis::ApproxDetailsSize(detail);
+    }
+    let need = 2 * m + f - 2;
+    if scratch < need {
+        return Analysis::ScratchSize {
+            need,
+            have: scratch,
+        };
+    }
+    Analysis::Done
+}
+
+// Both bands of a line, by way of the padded line at the front of the scratch.
+pub fn analyse(
+    bank: Bank,
+    line: &[f64],
+    approx: &mut [f64],
+    detail: &mut [f64],
+    scratch: &mut [f64],
+) -> Analysis
+    ensures { λ r. ⌜ Analysed bank (now (line .entry)) (now (approx .entry)) (now (detail .entry)) (now (scratch .entry))
+        r (now (approx .exit)) (now (detail .exit)) (now (scratch .exit)) ⌝ }
+{
+    let f = bank.taps;
+    let n = line.len();
+    let m = approx.len();
+    let answer = analysis_answer(f, n, m, detail.len(), scratch.len());
+    let Analysis::Done = answer else {
+        return answer;
+    };
+    let left = f - 2;
+    let need = 2 * m + left;
+    let border = bank.border;
+    pad(border, line, left, need - n - left, scratch);
+    let low = bank.low;
+    let high = bank.high;
+    let taps = weave(&low, &high, f);
+    bands(&taps, f, &scratch[..need], approx, detail);
+    Analysis::Done
+}

@@ -1,0 +1,64 @@
+-- `bank::making::bank` meets its contract: each branch is a part of the test, and the taps are held as the definition has them.
+use borrow.Author.Needs.{needs}
+use Rattle.bank.proofs.making.bank.Statement.{statement}
+use Rattle.bank.proofs.making.bank.Tie as tie
+use Rattle.bank.proofs.making.bank.Reads as reads
+use Rattle.bank.proofs.making.bank.Lts as lts
+use Rattle.bank.proofs.making.held.Reads as held-reads
+use Rattle.bank.proofs.making.refused.Reads as refused-reads
+use Rattle.bank.proofs.sizes.bad_taps.Reads as bad-taps-reads
+use Rattle.bank.specs.Tested.{refused-bank, good-taps, made-bank}
+use borrow.Author.Tests.{ne-eqb, eq-eqb}
+use mathlib.Core.Path.{_∙_, sym, ap}
+use Prim.Native.Nat.{ℕ}
+use Rattle.bank.specs.Banks.{zeros}
+use Rattle.numbers.specs.Words.{at, written}
+use denote.Ref.{now}
+use lib.ListN.{length}
+
+bad-taps-requires : tie.Need-bad-taps-requires
+bad-taps-requires c κs = search needs
+
+refused-requires : tie.Need-refused-requires
+refused-requires c κs = search needs
+
+returns : tie.Need-returns
+returns c = let e = sym (c .before .before .bad-taps .ensures) ∙ c .before .if1 .taken in
+    record { answer = c .refused .ensures .0 ∙ simp e; made = refused-bank _ (c .refused .ensures .0) (c .refused .ensures .1) }
+
+refused-requires-2 : tie.Need-refused-requires-2
+refused-requires-2 c κs = search needs
+
+returns-2 : tie.Need-returns-2
+returns-2 c = let e = sym (c .before .before .before .bad-taps .ensures) ∙ c .before .before .if1 .left in
+    record { answer = c .refused2 .ensures .0 ∙ simp (e, ne-eqb _ _ (c .before .if2 .taken)); made = refused-bank _ (c .refused2 .ensures .0) (c .refused2 .ensures .1) }
+
+held-requires : tie.Need-held-requires
+held-requires c κs = good-taps _ (sym (c .before .before .bad-taps .ensures) ∙ c .before .if1 .left) .most
+
+held-requires-2 : tie.Need-held-requires-2
+held-requires-2 c κs = let e = c .before in
+    rw (e .if2 .left) (good-taps _ (sym (e .before .before .bad-taps .ensures) ∙ e .before .if1 .left) .most)
+
+returns-3 : tie.Need-returns-3
+returns-3 c = let e = c .before .before in
+    let s = e .before .before .before .before .before in
+    let h = now (s .args .high) in
+    record {
+      answer = simp (sym (e .before .before .bad-taps .ensures) ∙ e .before .if1 .left, eq-eqb _ _ (e .if2 .left));
+      made = made-bank (length (now (s .args .low))) (s .args .border) (c .before .held .ensures)
+          (c .held2 .ensures ∙ ap (λ (k : ℕ). written (at h) k zeros) (e .if2 .left));
+    }
+
+pub bank-spec : {M : Type 1} → statement M
+bank-spec =
+    tie.close
+    (tie.spec
+    bad-taps-requires
+    refused-requires
+    returns
+    refused-requires-2
+    returns-2
+    held-requires
+    held-requires-2
+    returns-3)

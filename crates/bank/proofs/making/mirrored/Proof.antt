@@ -1,0 +1,50 @@
+-- `bank::making::mirrored` meets its contract: the branch is the test, and the taps are held and mirrored as the definition has them.
+use borrow.Author.Needs.{needs}
+use Rattle.bank.proofs.making.mirrored.Statement.{statement}
+use Rattle.bank.proofs.making.mirrored.Tie as tie
+use Rattle.bank.proofs.making.mirrored.Reads as reads
+use Rattle.bank.proofs.making.mirrored.Lts as lts
+use Rattle.bank.proofs.making.held.Reads as held-reads
+use Rattle.bank.proofs.making.low_pass_to_high.Reads as low-pass-to-high-reads
+use Rattle.bank.proofs.making.refused.Reads as refused-reads
+use Rattle.bank.proofs.sizes.bad_taps.Reads as bad-taps-reads
+use Rattle.bank.specs.Tested.{good-taps, made-bank, refused-bank}
+use borrow.Author.Tests.{eq-eqb}
+use denote.Ref.{now}
+use lib.ListN.{length}
+use mathlib.Core.Path.{_∙_, refl, sym}
+
+bad-taps-requires : tie.Need-bad-taps-requires
+bad-taps-requires c κs = search needs
+
+refused-requires : tie.Need-refused-requires
+refused-requires c κs = search needs
+
+returns : tie.Need-returns
+returns c = let e = sym (c .before .before .bad-taps .ensures) ∙ c .before .if1 .taken in
+    record { answer = c .refused .ensures .0 ∙ simp e; made = refused-bank _ (c .refused .ensures .0) (c .refused .ensures .1) }
+
+held-requires : tie.Need-held-requires
+held-requires c κs = good-taps _ (sym (c .before .bad-taps .ensures) ∙ c .if1 .left) .most
+
+low-pass-to-high-requires : tie.Need-low-pass-to-high-requires
+low-pass-to-high-requires c κs = good-taps _ (sym (c .before .before .bad-taps .ensures) ∙ c .before .if1 .left) .most
+
+returns-2 : tie.Need-returns-2
+returns-2 c = let e = c .before .before in
+    let s = e .before .before .before in
+    record {
+      answer = simp (sym (e .before .bad-taps .ensures) ∙ e .if1 .left, eq-eqb (length (now (s .args .low))) _ refl);
+      made = made-bank (length (now (s .args .low))) (s .args .border) (c .before .held .ensures) (c .low-pass-to-high .ensures);
+    }
+
+pub mirrored-spec : {M : Type 1} → statement M
+mirrored-spec =
+    tie.close
+    (tie.spec
+    bad-taps-requires
+    refused-requires
+    returns
+    held-requires
+    low-pass-to-high-requires
+    returns-2)

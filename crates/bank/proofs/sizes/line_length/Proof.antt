@@ -1,0 +1,39 @@
+-- `bank::sizes::line_length` meets its contract: the tests are the definition's, in its order.
+use borrow.Author.Needs.{needs}
+use Rattle.bank.proofs.sizes.line_length.Statement.{statement}
+use Rattle.bank.proofs.sizes.line_length.Tie as tie
+use borrow.Author.Tests.{le-leb, le-ltb, lt-leb, lt-ltb}
+use mathlib.Core.Path.{_∙_, sym}
+
+bad-taps-requires : tie.Need-bad-taps-requires
+bad-taps-requires c κs = search needs
+
+returns : tie.Need-returns
+returns c = record { answer = simp (sym (c .before .bad-taps .ensures) ∙ c .if1 .taken) }
+
+returns-2 : tie.Need-returns-2
+returns-2 c = record { answer = simp (sym (c .before .before .bad-taps .ensures) ∙ c .before .if1 .left, lt-ltb _ _ (c .if2 .taken)) }
+
+mul-if3 : tie.Need-mul-if3
+mul-if3 c = search needs
+
+add-if3 : tie.Need-add-if3
+add-if3 c = search needs
+
+returns-3 : tie.Need-returns-3
+returns-3 c = record { answer = simp (sym (c .before .before .before .bad-taps .ensures) ∙ c .before .before .if1 .left, le-ltb _ _ (c .before .if2 .left), le-leb _ _ (c .if3 .taken)) }
+
+mul-t5 : tie.Need-mul-t5
+mul-t5 c = search needs
+
+add-t6 : tie.Need-add-t6
+add-t6 c = search needs
+
+sub-t7 : tie.Need-sub-t7
+sub-t7 c = search needs
+
+returns-4 : tie.Need-returns-4
+returns-4 c = record { answer = simp (sym (c .before .before .before .bad-taps .ensures) ∙ c .before .before .if1 .left, le-ltb _ _ (c .before .if2 .left), lt-leb _ _ (c .if3 .left)) }
+
+pub line-length-spec : {M : Type 1} → statement M
+line-length-spec = tie.close (tie.spec bad-taps-requires returns returns-2 mul-if3 add-if3 returns-3 mul-t5 add-t6 sub-t7 returns-4)

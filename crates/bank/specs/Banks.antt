@@ -1,0 +1,60 @@
+-- Making a bank: the answers with their numbers, and the bank beside each. Definitions only.
+use mathlib.Core.Path.{_≡_}
+use mathlib.Core.Bool.{cond, not, _||_}
+use mathlib.Core.List.{List, []}
+use Prim.Native.Nat.{ℕ, _-_, _%_}
+use lib.Dec.{eqb}
+use lib.ListN.{length, replicate}
+use lib.Ieee.{Float, neg}
+use Rattle.numbers.specs.Words.{plusZero, at, written, whenDone}
+use Rattle.border.specs.declared.Border.{Border}
+use Rattle.bank.specs.declared.Bank.{Bank}
+use Rattle.bank.specs.declared.making.Making.{Making}
+use Rattle.bank.specs.declared.making.Making.the-variants.{Done, Taps}
+use Rattle.bank.specs.Lengths.{badTaps}
+
+-- document 01's number of an answer, and the values that it carries
+abbrev pub numberOf : Making → ℕ
+numberOf Done = 0
+numberOf Taps = 12
+
+abbrev pub valuesOf : Making → List ℕ
+valuesOf Done = []
+valuesOf Taps = []
+
+-- 12 where the lists are odd, empty, over 64 or unequal
+abbrev pub answerOf : ℕ → ℕ → Making
+answerOf low high = cond (badTaps low || not (eqb high low)) Taps Done
+
+-- an array of taps before any is in it
+abbrev pub zeros : List Float
+zeros = replicate 64 plusZero
+
+-- signs alternate over j: plus at even j, minus at odd
+abbrev pub signed : ℕ → Float → Float
+signed j x = cond (eqb (j % 2) 0) x (neg x)
+
+-- the mirror rule: high tap j is low tap f - 1 - j with the sign of j
+abbrev pub mirror : List Float → ℕ → Float
+mirror low j = signed j (at low (length low - 1 - j))
+
+-- the bank of two lists, the high one told by its places; zeros fill the rest of either array
+abbrev pub bankOf : List Float → (ℕ → Float) → Border → Bank
+bankOf low high b = record {
+  low = written (at low) (length low) zeros;
+  high = written high (length low) zeros;
+  taps = length low;
+  border = b;
+}
+
+-- the bank beside a refusal: no taps
+abbrev pub noBank : Border → Bank
+noBank b = record { low = zeros; high = zeros; taps = 0; border = b }
+
+pub record BankMade (low high : List Float) (b : Border) (r : Making) (bank : Bank) : Type 0 where
+  pub answer : r ≡ answerOf (length low) (length high)
+  pub made : bank ≡ whenDone (numberOf r) (bankOf low (at high) b) (noBank b)
+
+pub record MirrorMade (low : List Float) (b : Border) (r : Making) (bank : Bank) : Type 0 where
+  pub answer : r ≡ answerOf (length low) (length low)
+  pub made : bank ≡ whenDone (numberOf r) (bankOf low (mirror low) b) (noBank b)

@@ -1,0 +1,85 @@
+-- Laws of the tests: where an answer is done every test passed, which gives the work what it asks for.
+use mathlib.Core.Path.{_≡_, refl, ap, sym, _∙_}
+use Rattle.bank.specs.declared.sizes.Size.{Size}
+use Rattle.bank.specs.declared.sizes.Size.the-variants as size
+use Rattle.bank.specs.declared.Bank.{Bank}
+use Rattle.bank.specs.declared.making.Making.{Making}
+use Rattle.bank.specs.declared.making.Making.the-variants as making
+use Rattle.bank.specs.Banks as Banks
+use Rattle.bank.specs.Sizes as Sizes
+use Prim.Native.Nat.{_%_, _<_, _≤_, suc, zero, ℕ, _-_, _/_}
+use Rattle.bank.specs.Lengths.{badTaps, wholePad}
+use Rattle.numbers.specs.Tests.{neither, passed}
+use Rattle.numbers.specs.Words.{longest, whenDone}
+use borrow.Author.Tests.{eqb-false, eqb-true, ltb-false, not-false}
+use lib.Dec.{eqb, ltb, lit<}
+use mathlib.Core.Bool.{_||_, false, not, Bool, cond, true}
+use native.Mathlib.Omega.{arith}
+use Rattle.border.specs.declared.Border.{Border}
+use lib.Ieee.{Float}
+use mathlib.Core.List.{List}
+
+-- taps that are neither odd, none nor over 64
+pub record GoodTaps (f : ℕ) : Type 0 where
+  pub even : f % 2 ≡ 0
+  pub two : 2 ≤ f
+  pub most : f ≤ 64
+
+pub good-taps : (f : ℕ) → badTaps f ≡ false → GoodTaps f
+unfolding badTaps
+good-taps f e =
+    let p = neither (not (eqb (f % 2) 0) || eqb f 0) (ltb 64 f) e in
+    let q = neither (not (eqb (f % 2) 0)) (eqb f 0) (p .0) in
+    let h : f % 2 ≡ 0 = eqb-true (f % 2) 0 (not-false (eqb (f % 2) 0) (q .0)) in
+    record { even = h; two = some f h (eqb-false f 0 (q .1)); most = ltb-false 64 f (p .1) }
+  where
+    some : (f : ℕ) → f % 2 ≡ 0 → (f ≡ 0 → ⊥) → 2 ≤ f
+    some zero h z = absurd (z refl)
+    some (suc zero) h z = absurd (omega arith)
+    some (suc (suc f)) h z = omega arith
+
+-- ---- n samples and f taps past 12, 11 and 1
+pub record Analysable (n f : ℕ) : Type 0 where
+  pub taps : GoodTaps f
+  pub limit : n ≤ longest
+  pub enough : f ≤ n
+
+pub record Sized (n f l m : ℕ) : Type 0 where
+  pub ready : Analysable n f
+  pub given : m ≡ l
+  pub other : (k : ℕ) → size.Length k ≡ Sizes.ofSamples n f k
+
+pub sized : (n f l m : ℕ) → Sizes.ofSamples n f l ≡ size.Length m → Sized n f l m
+sized n f l m e =
+    let p1 = passed Sizes.numberOf (badTaps f) e (lit< tt) refl in
+    let p2 = passed Sizes.numberOf (ltb longest n) (p1 .1) (lit< tt) refl in
+    let p3 = passed Sizes.numberOf (ltb n f) (p2 .1) (lit< tt) refl in
+    let q = p3 .1 in
+    record {
+      ready = record { taps = good-taps f (p1 .0); limit = ltb-false longest n (p2 .0); enough = ltb-false n f (p3 .0) };
+      given = cc;
+      other = λ k. simp (p1 .0, p2 .0, p3 .0);
+    }
+
+-- a length is refused, or given, whatever it is
+pub sized-alike : (n f l k : ℕ) (r : Size) → r ≡ Sizes.ofSamples n f l → 0 < Sizes.numberOf r → r ≡ Sizes.ofSamples n f k
+sized-alike n f l k r e h = go (badTaps f) (ltb longest n) (ltb n f) e
+  where
+    go : (s t u : Bool) → r ≡ cond s size.Taps (cond t size.Limit (cond u (size.MinFilterSize n f) (size.Length l)))
+        → r ≡ cond s size.Taps (cond t size.Limit (cond u (size.MinFilterSize n f) (size.Length k)))
+    go true t u e = e
+    go false true u e = e
+    go false false true e = e
+    go false false false e = let q = ap Sizes.numberOf e in absurd (omega arith)
+
+-- the left pad, half of the whole padding rounded down, is f - 2
+pub left-pad : (n f : ℕ) → GoodTaps f → wholePad n f / 2 ≡ f - 2
+left-pad n f g = omega (arith, g .two, g .even)
+
+-- ---- making
+pub refused-bank : {b : Border} {r : Making} {bank : Bank} (new : Bank) → r ≡ making.Taps → bank ≡ Banks.noBank b → bank ≡ whenDone (Banks.numberOf r) new (Banks.noBank b)
+refused-bank {b} new e q = q ∙ sym (ap (λ (k : Making). whenDone (Banks.numberOf k) new (Banks.noBank b)) e)
+
+pub made-bank : {l h l′ h′ : List Float} (f : ℕ) (b : Border) → l ≡ l′ → h ≡ h′
+    → _≡_ {A = Bank} (record { low = l; high = h; taps = f; border = b }) (record { low = l′; high = h′; taps = f; border = b })
+made-bank f b p q = cc

@@ -1,0 +1,13 @@
+// The bank of filters: its record, how it is made, and the lengths that a user has to know to lend buffers.
+pub mod making;
+pub mod sizes;
+
+use border::Border;
+
+// Both tap lists, `taps` of each array in use, and the border.
+pub struct Bank {
+    pub low: [f64; 64],
+    pub high: [f64; 64],
+    pub taps: usize,
+    pub border: Border,
+}

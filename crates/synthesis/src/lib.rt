@@ -1,0 +1,58 @@
+// Synthesis of one line.
+pub mod work;
+
+ghost use mathlib.Core.Path.{_≡_};
+ghost use Rattle.synthesis.specs.Syntheses.{answerOf, Synthesised};
+use crate::work::join;
+use bank::Bank;
+use bank::sizes::bad_taps;
+
+pub enum Synthesis {
+    Done,
+    ApproxDetailsNotMatches { approx: usize, detail: usize },
+    OutputSizeIsNotValid { have: usize, need: usize },
+    ZeroedBaseSize,
+    Limit,
+    Taps,
+}
+
+// The tests, on lengths alone.
+pub fn synthesis_answer(f: usize, approx: usize, detail: usize, out: usize) -> Synthesis
+    ensures { λ r. ⌜ r ≡ answerOf f approx detail out ⌝ }
+{
+    if bad_taps(f) {
+        return Synthesis::Taps;
+    }
+    if 1048576 < approx {
+        return Synthesis::Limit;
+    }
+    if 1048576 < detail {
+        return Synthesis::Limit;
+    }
+    if approx != detail {
+        return Synthesis::ApproxDetailsNotMatches { approx, detail };
+    }
+    if 2 * approx + 2 <= f {
+        return Synthesis::ZeroedBaseSize;
+    }
+    let need = 2 * approx + 2 - f;
+    if out != need {
+        return Synthesis::OutputSizeIsNotValid { have: out, need };
+    }
+    Synthesis::Done
+}
+
+// Both bands joined onto what the output held.
+pub fn synthesise(bank: Bank, approx: &[f64], detail: &[f64], out: &mut [f64]) -> Synthesis
+    ensures { λ r. ⌜ Synthesised bank (now (approx .entry)) (now (detail .entry)) (now (out .entry)) r (now (out .exit)) ⌝ }
+{
+    let f = bank.taps;
+    let answer = synthesis_answer(f, approx.len(), detail.len(), out.len());
+    let Synthesis::Done = answer else {
+        return answer;
+    };
+    let low = bank.low;
+    let high = bank.high;
+    join(&low, &high, f, approx, detail, out);
+    Synthesis::Done
+}

@@ -1,0 +1,129 @@
+// Both bands joined into an output, pair after pair.
+ghost use mathlib.Core.Path.{_≡_};
+ghost use Prim.Native.Nat.{_+_, _-_, _≤_, min, max};
+ghost use lib.ListN.{length};
+ghost use lib.Ieee.{binary64};
+ghost use Rattle.numbers.specs.Words.{tab};
+ghost use Rattle.synthesis.specs.Lines.{synthesised};
+ghost use Rattle.synthesis.specs.Works.{spreadAt, Joinable, PairsOf, InnerPairs, joinedPairs};
+
+// a - b, or 0 where b is more.
+fn less(a: usize, b: usize) -> usize
+    ensures { λ r. ⌜ r ≡ a - b ⌝ }
+{
+    if b < a {
+        return a - b;
+    }
+    0
+}
+
+fn least(a: usize, b: usize) -> usize
+    ensures { λ r. ⌜ r ≡ min a b ⌝ }
+{
+    if a < b {
+        return a;
+    }
+    b
+}
+
+fn most(a: usize, b: usize) -> usize
+    ensures { λ r. ⌜ r ≡ max a b ⌝ }
+{
+    if a < b {
+        return b;
+    }
+    a
+}
+
+// One pair onto a part of the output, tap `from` onto its first place.
+pub fn spread(low: &[f64; 64], high: &[f64; 64], from: usize, a: f64, d: f64, part: &mut [f64])
+    requires { ⌜ from + length (now part) ≤ 64 ⌝ }
+    ensures { λ _. ⌜ now (part .exit) ≡ tab (spreadAt binary64 (now (low .entry)) (now (high .entry)) from a d (now (part .entry))) (length (now (part .entry))) ⌝ }
+{
+    let mut j = 0usize;
+    while j < part.len() {
+        part[j] = part[j] + high[from + j] * d + low[from + j] * a;
+        j += 1;
+    }
+}
+
+// The pairs from `first` to `end`, each onto the part of the output that it reaches.
+fn edge(
+    low: &[f64; 64],
+    high: &[f64; 64],
+    f: usize,
+    approx: &[f64],
+    detail: &[f64],
+    out: &mut [f64],
+    first: usize,
+    end: usize,
+)
+    requires { ⌜ PairsOf f (length (now approx)) (length (now detail)) (length (now out)) first end ⌝ }
+    ensures { λ _. ⌜ now (out .exit) ≡ joinedPairs binary64 f (now (low .entry)) (now (high .entry)) (now (approx .entry)) (now (detail .entry)) first end (now (out .entry)) ⌝ }
+{
+    let offset = f - 2;
+    let n = out.len();
+    let mut i = first;
+    while i < end {
+        let k = 2 * i;
+        let lo = less(k, offset);
+        let hi = least(k + 2, n);
+        spread(
+            low,
+            high,
+            less(offset, k),
+            approx[i],
+            detail[i],
+            &mut out[lo..hi],
+        );
+        i += 1;
+    }
+}
+
+// The same for pairs all of whose taps meet the output, two a turn; the answer is where it stopped.
+fn inner(
+    low: &[f64; 64],
+    high: &[f64; 64],
+    f: usize,
+    approx: &[f64],
+    detail: &[f64],
+    out: &mut [f64],
+    first: usize,
+    end: usize,
+) -> usize
+    requires { ⌜ InnerPairs f (length (now approx)) (length (now detail)) (length (now out)) first end ⌝ }
+    ensures { λ r. ⌜ (first ≤ r) × (r ≤ end) × (now (out .exit) ≡ joinedPairs binary64 f (now (low .entry)) (now (high .entry)) (now (approx .entry)) (now (detail .entry)) first r (now (out .entry))) ⌝ }
+{
+    let offset = f - 2;
+    let mut i = first;
+    while i + 1 < end {
+        let lo = 2 * i - offset;
+        let hi = 2 * i + 2;
+        spread(low, high, 0, approx[i], detail[i], &mut out[lo..hi]);
+        let next = i + 1;
+        let lo2 = 2 * next - offset;
+        let hi2 = 2 * next + 2;
+        spread(low, high, 0, approx[next], detail[next], &mut out[lo2..hi2]);
+        i += 2;
+    }
+    i
+}
+
+// All pairs: those that begin before the output, those within it, and the rest.
+pub fn join(
+    low: &[f64; 64],
+    high: &[f64; 64],
+    f: usize,
+    approx: &[f64],
+    detail: &[f64],
+    out: &mut [f64],
+)
+    requires { ⌜ Joinable f (length (now approx)) (length (now detail)) (length (now out)) ⌝ }
+    ensures { λ _. ⌜ now (out .exit) ≡ synthesised binary64 f (now (low .entry)) (now (high .entry)) (now (approx .entry)) (now (detail .entry)) (now (out .entry)) ⌝ }
+{
+    let start = (f - 2) / 2;
+    let end = most(start, out.len() / 2);
+    edge(low, high, f, approx, detail, out, 0, start);
+    let done = inner(low, high, f, approx, detail, out, start, end);
+    edge(low, high, f, approx, detail, out, done, approx.len());
+}
