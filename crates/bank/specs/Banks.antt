@@ -38,18 +38,17 @@ signed j x = cond (eqb (j % 2) 0) x (neg x)
 abbrev pub mirror : List Float → ℕ → Float
 mirror low j = signed j (at low (length low - 1 - j))
 
+-- a bank by its fields
+abbrev pub heldIn : List Float → List Float → ℕ → Border → Bank
+heldIn l h f b = record { low = l; high = h; taps = f; border = b }
+
 -- the bank of two lists, the high one told by its places; zeros fill the rest of either array
 abbrev pub bankOf : List Float → (ℕ → Float) → Border → Bank
-bankOf low high b = record {
-  low = written (at low) (length low) zeros;
-  high = written high (length low) zeros;
-  taps = length low;
-  border = b;
-}
+bankOf l h b = heldIn (written (at l) (length l) zeros) (written h (length l) zeros) (length l) b
 
 -- the bank beside a refusal: no taps
 abbrev pub noBank : Border → Bank
-noBank b = record { low = zeros; high = zeros; taps = 0; border = b }
+noBank b = heldIn zeros zeros 0 b
 
 pub record BankMade (low high : List Float) (b : Border) (r : Making) (bank : Bank) : Type 0 where
   pub answer : r ≡ answerOf (length low) (length high)

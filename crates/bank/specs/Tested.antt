@@ -80,6 +80,8 @@ left-pad n f g = omega (arith, g .two, g .even)
 pub refused-bank : {b : Border} {r : Making} {bank : Bank} (new : Bank) → r ≡ making.Taps → bank ≡ Banks.noBank b → bank ≡ whenDone (Banks.numberOf r) new (Banks.noBank b)
 refused-bank {b} new e q = q ∙ sym (ap (λ (k : Making). whenDone (Banks.numberOf k) new (Banks.noBank b)) e)
 
-pub made-bank : {l h l′ h′ : List Float} (f : ℕ) (b : Border) → l ≡ l′ → h ≡ h′
-    → _≡_ {A = Bank} (record { low = l; high = h; taps = f; border = b }) (record { low = l′; high = h′; taps = f; border = b })
-made-bank f b p q = cc
+pub made-bank : {b : Border} {r : Making} {bank : Bank} {l h l′ h′ : List Float} {f : ℕ} → r ≡ making.Done → bank ≡ Banks.heldIn l h f b → l ≡ l′ → h ≡ h′
+    → bank ≡ whenDone (Banks.numberOf r) (Banks.heldIn l′ h′ f b) (Banks.noBank b)
+made-bank {b} {r} {bank} {l} {h} {l′} {h′} {f} e q p s =
+    q ∙ ap (λ (x : List Float). Banks.heldIn x h f b) p ∙ ap (λ (x : List Float). Banks.heldIn l′ x f b) s
+    ∙ sym (ap (λ (k : Making). whenDone (Banks.numberOf k) (Banks.heldIn l′ h′ f b) (Banks.noBank b)) e)

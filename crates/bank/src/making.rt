@@ -3,7 +3,7 @@ ghost use mathlib.Core.Path.{_≡_};
 ghost use Prim.Native.Nat.{_≤_, _<_};
 ghost use lib.ListN.{length};
 ghost use Rattle.numbers.specs.Words.{at, written};
-ghost use Rattle.bank.specs.Banks.{signed, mirror, zeros, noBank, BankMade, MirrorMade};
+ghost use Rattle.bank.specs.Banks.{signed, mirror, zeros, heldIn, noBank, BankMade, MirrorMade};
 use crate::Bank;
 use crate::sizes::bad_taps;
 use border::Border;
@@ -17,6 +17,20 @@ pub enum Making {
 pub struct Made {
     pub answer: Making,
     pub bank: Bank,
+}
+
+fn done(low: [f64; 64], high: [f64; 64], taps: usize, border: Border) -> Made
+    ensures { λ r. ⌜ (r .answer ≡ Making.Done) × (r .bank ≡ heldIn low high taps border) ⌝ }
+{
+    Made {
+        answer: Making::Done,
+        bank: Bank {
+            low,
+            high,
+            taps,
+            border,
+        },
+    }
 }
 
 fn refused(border: Border) -> Made
@@ -81,15 +95,7 @@ pub fn bank(low: &[f64], high: &[f64], border: Border) -> Made
     }
     let l = held(low);
     let h = held(high);
-    Made {
-        answer: Making::Done,
-        bank: Bank {
-            low: l,
-            high: h,
-            taps: f,
-            border,
-        },
-    }
+    done(l, h, f, border)
 }
 
 // A bank whose high taps follow from the low ones.
@@ -102,13 +108,5 @@ pub fn mirrored(low: &[f64], border: Border) -> Made
     }
     let l = held(low);
     let h = low_pass_to_high(low);
-    Made {
-        answer: Making::Done,
-        bank: Bank {
-            low: l,
-            high: h,
-            taps: f,
-            border,
-        },
-    }
+    done(l, h, f, border)
 }

@@ -5,6 +5,7 @@ ghost use Rattle.convolution.specs.Pads.{beyond, tooFar, placed101, cent
 ghost use Rattle.convolution.specs.Sizes.{ScratchSized};
 use border::Border;
 use border::rule::Place;
+use numbers::less;
 
 pub struct Pads {
     pub left: usize,
@@ -42,16 +43,6 @@ pub fn beyond(n: usize, f: usize, centre: Place) -> bool
         Place::Before(k) => 2147483647 < k,
         Place::At(c) => 2147483647 < c,
     }
-}
-
-// a - b, or 0 where b is more.
-fn less(a: usize, b: usize) -> usize
-    ensures { λ r. ⌜ r ≡ a - b ⌝ }
-{
-    if b < a {
-        return a - b;
-    }
-    0
 }
 
 // The places in front of a line.

@@ -1,4 +1,31 @@
-// Nothing but the words and laws of specs/, which every crate above cites.
-pub fn nothing(x: u32) -> u32 {
-    x
+// Numbers that every crate works with; specs/ has the words and laws that they cite.
+ghost use mathlib.Core.Path.{_≡_};
+ghost use Prim.Native.Nat.{_-_, min, max};
+
+// a - b, or 0 where b is more.
+pub fn less(a: usize, b: usize) -> usize
+    ensures { λ r. ⌜ r ≡ a - b ⌝ }
+{
+    if b < a {
+        return a - b;
+    }
+    0
+}
+
+pub fn least(a: usize, b: usize) -> usize
+    ensures { λ r. ⌜ r ≡ min a b ⌝ }
+{
+    if a < b {
+        return a;
+    }
+    b
+}
+
+pub fn most(a: usize, b: usize) -> usize
+    ensures { λ r. ⌜ r ≡ max a b ⌝ }
+{
+    if a < b {
+        return b;
+    }
+    a
 }

@@ -6,34 +6,9 @@ ghost use lib.Ieee.{binary64};
 ghost use Rattle.numbers.specs.Words.{tab};
 ghost use Rattle.synthesis.specs.Lines.{synthesised};
 ghost use Rattle.synthesis.specs.Works.{spreadAt, Joinable, PairsOf, InnerPairs, joinedPairs};
-
-// a - b, or 0 where b is more.
-fn less(a: usize, b: usize) -> usize
-    ensures { λ r. ⌜ r ≡ a - b ⌝ }
-{
-    if b < a {
-        return a - b;
-    }
-    0
-}
-
-fn least(a: usize, b: usize) -> usize
-    ensures { λ r. ⌜ r ≡ min a b ⌝ }
-{
-    if a < b {
-        return a;
-    }
-    b
-}
-
-fn most(a: usize, b: usize) -> usize
-    ensures { λ r. ⌜ r ≡ max a b ⌝ }
-{
-    if a < b {
-        return b;
-    }
-    a
-}
+use numbers::least;
+use numbers::less;
+use numbers::most;
 
 // One pair onto a part of the output, tap `from` onto its first place.
 pub fn spread(low: &[f64; 64], high: &[f64; 64], from: usize, a: f64, d: f64, part: &mut [f64])

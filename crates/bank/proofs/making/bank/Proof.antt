@@ -4,17 +4,17 @@ use Rattle.bank.proofs.making.bank.Statement.{statement}
 use Rattle.bank.proofs.making.bank.Tie as tie
 use Rattle.bank.proofs.making.bank.Reads as reads
 use Rattle.bank.proofs.making.bank.Lts as lts
+use Rattle.bank.proofs.making.done.Reads as done-reads
 use Rattle.bank.proofs.making.held.Reads as held-reads
 use Rattle.bank.proofs.making.refused.Reads as refused-reads
 use Rattle.bank.proofs.sizes.bad_taps.Reads as bad-taps-reads
-use Rattle.bank.specs.Tested.{refused-bank, good-taps, made-bank}
-use borrow.Author.Tests.{ne-eqb, eq-eqb}
-use mathlib.Core.Path.{_∙_, sym, ap}
 use Prim.Native.Nat.{ℕ}
 use Rattle.bank.specs.Banks.{zeros}
+use Rattle.bank.specs.Tested.{good-taps, made-bank, refused-bank}
 use Rattle.numbers.specs.Words.{at, written}
+use borrow.Author.Tests.{eq-eqb, ne-eqb}
 use denote.Ref.{now}
-use lib.ListN.{length}
+use mathlib.Core.Path.{_∙_, ap, sym}
 
 bad-taps-requires : tie.Need-bad-taps-requires
 bad-taps-requires c κs = search needs
@@ -40,14 +40,16 @@ held-requires-2 : tie.Need-held-requires-2
 held-requires-2 c κs = let e = c .before in
     rw (e .if2 .left) (good-taps _ (sym (e .before .before .bad-taps .ensures) ∙ e .before .if1 .left) .most)
 
+done-requires : tie.Need-done-requires
+done-requires c κs = search needs
+
 returns-3 : tie.Need-returns-3
-returns-3 c = let e = c .before .before in
-    let s = e .before .before .before .before .before in
-    let h = now (s .args .high) in
+returns-3 c = let e = c .before .before .before in
+    let h = now (e .before .before .before .before .before .args .high) in
     record {
-      answer = simp (sym (e .before .before .bad-taps .ensures) ∙ e .before .if1 .left, eq-eqb _ _ (e .if2 .left));
-      made = made-bank (length (now (s .args .low))) (s .args .border) (c .before .held .ensures)
-          (c .held2 .ensures ∙ ap (λ (k : ℕ). written (at h) k zeros) (e .if2 .left));
+      answer = c .done .ensures .0 ∙ simp (sym (e .before .before .bad-taps .ensures) ∙ e .before .if1 .left, eq-eqb _ _ (e .if2 .left));
+      made = made-bank (c .done .ensures .0) (c .done .ensures .1) (c .before .before .held .ensures)
+          (c .before .held2 .ensures ∙ ap (λ (k : ℕ). written (at h) k zeros) (e .if2 .left));
     }
 
 pub bank-spec : {M : Type 1} → statement M
@@ -61,4 +63,5 @@ bank-spec =
     returns-2
     held-requires
     held-requires-2
+    done-requires
     returns-3)

@@ -4,6 +4,7 @@ use Rattle.bank.proofs.making.mirrored.Statement.{statement}
 use Rattle.bank.proofs.making.mirrored.Tie as tie
 use Rattle.bank.proofs.making.mirrored.Reads as reads
 use Rattle.bank.proofs.making.mirrored.Lts as lts
+use Rattle.bank.proofs.making.done.Reads as done-reads
 use Rattle.bank.proofs.making.held.Reads as held-reads
 use Rattle.bank.proofs.making.low_pass_to_high.Reads as low-pass-to-high-reads
 use Rattle.bank.proofs.making.refused.Reads as refused-reads
@@ -30,12 +31,15 @@ held-requires c κs = good-taps _ (sym (c .before .bad-taps .ensures) ∙ c .if1
 low-pass-to-high-requires : tie.Need-low-pass-to-high-requires
 low-pass-to-high-requires c κs = good-taps _ (sym (c .before .before .bad-taps .ensures) ∙ c .before .if1 .left) .most
 
+done-requires : tie.Need-done-requires
+done-requires c κs = search needs
+
 returns-2 : tie.Need-returns-2
-returns-2 c = let e = c .before .before in
-    let s = e .before .before .before in
+returns-2 c = let e = c .before .before .before in
+    let low = now (e .before .before .before .args .low) in
     record {
-      answer = simp (sym (e .before .bad-taps .ensures) ∙ e .if1 .left, eq-eqb (length (now (s .args .low))) _ refl);
-      made = made-bank (length (now (s .args .low))) (s .args .border) (c .before .held .ensures) (c .low-pass-to-high .ensures);
+      answer = c .done .ensures .0 ∙ simp (sym (e .before .bad-taps .ensures) ∙ e .if1 .left, eq-eqb (length low) _ refl);
+      made = made-bank (c .done .ensures .0) (c .done .ensures .1) (c .before .before .held .ensures) (c .before .low-pass-to-high .ensures);
     }
 
 pub mirrored-spec : {M : Type 1} → statement M
@@ -47,4 +51,5 @@ mirrored-spec =
     returns
     held-requires
     low-pass-to-high-requires
+    done-requires
     returns-2)

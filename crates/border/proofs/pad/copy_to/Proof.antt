@@ -1,3 +1,4 @@
+-- `border::pad::copy_to` meets its contract: each turn copies the next sample.
 use mathlib.Core.Path.{_≡_, refl}
 use Prim.Native.Nat.{_-_, _≤_}
 use native.Mathlib.Omega.{arith}

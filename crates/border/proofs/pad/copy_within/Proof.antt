@@ -1,3 +1,4 @@
+-- `border::pad::copy_within` meets its contract: each turn copies the next number, which lies apart from those written.
 use mathlib.Core.Path.{_≡_, ap, _∙_}
 use mathlib.Core.Logic.{⊎-elim}
 use mathlib.Core.List.{List}

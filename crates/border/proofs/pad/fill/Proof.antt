@@ -1,3 +1,4 @@
+-- `border::pad::fill` meets its contract: each turn writes one place of the padded line, and the samples stay apart from what is written.
 use mathlib.Core.Path.{_≡_, sym, ap, _∙_, subst}
 use mathlib.Core.List.{List}
 use Prim.Native.Nat.{ℕ, _+_, _-_, _≤_}

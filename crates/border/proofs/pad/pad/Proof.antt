@@ -1,3 +1,4 @@
+-- `border::pad::pad` meets its contract: the samples in place and both ends are the padded line.
 use denote.Ref.{now}
 use mathlib.Core.Path.{_∙_}
 use borrow.Author.Needs.{needs}

@@ -1,3 +1,4 @@
+-- `border::pad::pad_ends` meets its contract: both ends filled around the samples are the padded line.
 use denote.Ref.{now}
 use native.Mathlib.Omega.{arith}
 use Prim.Native.Nat.{_+_}

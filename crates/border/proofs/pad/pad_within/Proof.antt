@@ -1,3 +1,4 @@
+-- `border::pad::pad_within` meets its contract: the samples moved to their place and both ends are the padded line, within the one buffer.
 use Rattle.border.specs.Inside.{pad-inside, part-tab}
 use lib.Ieee.{Float, nan}
 use mathlib.Core.List.{List}

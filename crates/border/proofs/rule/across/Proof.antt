@@ -1,3 +1,4 @@
+-- `border::rule::across` meets its contract: a place by its sign, and differences that its reach keeps from wrapping.
 use Rattle.border.specs.declared.rule.Place.{Place}
 use native.Mathlib.Omega.{arith}
 use mathlib.Core.Path.{sym, ap, subst}

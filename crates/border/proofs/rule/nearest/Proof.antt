@@ -1,3 +1,4 @@
+-- `border::rule::nearest` meets its contract: a place by its sign.
 use Rattle.border.specs.declared.rule.Place.{Place}
 use mathlib.Core.Path.{sym, ap}
 use borrow.Author.Needs.{needs}

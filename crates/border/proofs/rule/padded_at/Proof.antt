@@ -1,3 +1,4 @@
+-- `border::rule::padded_at` meets its contract: the place, its source and the value are the definition's three steps.
 use Rattle.border.specs.declared.rule.Source.{Source}
 use Rattle.border.specs.declared.rule.Place.{Place}
 use lib.ListN.{length}

@@ -1,3 +1,4 @@
+-- `border::rule::place_in` meets its contract: the branch is the definition's.
 use borrow.Author.Tests.{lt-ltb, le-ltb}
 use borrow.Author.Needs.{needs}
 use Rattle.border.proofs.rule.place_in.Statement.{statement}

@@ -1,3 +1,4 @@
+-- `border::rule::source_at` meets its contract: within the line the sample itself, else what stands outside.
 use Rattle.border.specs.declared.rule.Place.{Place}
 use mathlib.Core.Path.{sym, _∙_, subst}
 use borrow.Author.Needs.{needs}

@@ -1,3 +1,4 @@
+-- `border::rule::value` meets its contract: a source within the line is a sample of it, and the code's 0.0 is +0.
 use lib.ListN.{length}
 use denote.Ref.{now}
 use native.Mathlib.Omega.{arith}

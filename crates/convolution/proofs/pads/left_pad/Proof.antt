@@ -5,7 +5,7 @@ use Rattle.convolution.proofs.pads.left_pad.Statement.{statement}
 use Rattle.convolution.proofs.pads.left_pad.Tie as tie
 use Rattle.convolution.proofs.pads.left_pad.Reads as reads
 use Rattle.convolution.proofs.pads.left_pad.Lts as lts
-use Rattle.convolution.proofs.pads.less.Reads as less-reads
+use Rattle.numbers.proofs.less.Reads as less-reads
 use Prim.Native.Nat.{ℕ}
 use Rattle.convolution.specs.Pads.{Kernel, centreOf, leftPad}
 use Rattle.convolution.specs.Places.{left-at, left-before}
