@@ -4,7 +4,6 @@ pub mod work;
 ghost use mathlib.Core.Path.{_≡_};
 ghost use Rattle.analysis.specs.Analyses.{answerOf, Analysed};
 use crate::work::bands;
-use crate::work::weave;
 use bank::Bank;
 use bank::sizes::bad_taps;
 use border::pad::pad;
@@ -69,10 +68,10 @@ pub fn analyse(
     let left = f - 2;
     let need = 2 * m + left;
     let border = bank.border;
-    pad(border, line, left, need - n - left, scratch);
+    // Copied before the scratch is written: the compiler then knows that they stay.
     let low = bank.low;
     let high = bank.high;
-    let taps = weave(&low, &high, f);
-    bands(&taps, f, &scratch[..need], approx, detail);
+    pad(border, line, left, need - n - left, scratch);
+    bands(&low, &high, f, &scratch[..need], approx, detail);
     Analysis::Done
 }

@@ -13,7 +13,7 @@ use Rattle.analysis.specs.Lines.{band, paddedAt, paddedInto}
 use Rattle.analysis.specs.Taps.{of-samples}
 use Rattle.analysis.specs.Tested.{Analysing, analysing, needed, pads, whole}
 use Rattle.numbers.specs.Tests.{kept, key-above}
-use Rattle.numbers.specs.Words.{tab, written, at}
+use Rattle.numbers.specs.Words.{tab, written}
 use denote.Ref.{now}
 use lib.Dec.{lit<}
 use lib.Ieee.{Float, binary64}
@@ -51,19 +51,19 @@ count c = needed _ _ _ (all c .ready) (all c .approxed)
 
 -- the padded line stands in the scratch
 padded-there : (c : tie.After-pad)
-    → let a = entry (c .before .before .before .before) .args in
+    → let a = entry (c .before .before .before .before .before .before) .args in
     c .pad .last .1 .1 .1 .1 .0 ≡ paddedInto (a .bank .taps) (a .bank .border) (now (a .line)) (now (a .scratch))
 padded-there c =
-    let e = c .before .before in
+    let e = c .before .before .before .before in
     let a = entry (e .before .before) .args in
     c .pad .ensures ∙ ap (λ (k : ℕ). written (paddedAt (a .bank .taps) (a .bank .border) (now (a .line))) k (now (a .scratch))) (whole _ _ _ (all e .ready) (all e .approxed))
 
 -- a law over plain variables, for either band
-banded : (b : Border) (tap : ℕ → Float) (taps s scratch l r : List Float) (F m N : ℕ) → ((j : ℕ) → j < F → tap j ≡ at taps j) → N ≡ 2 * m + (F - 2) → N ≡ paddedLength (length s) F → 2 ≤ F → m ≡ pairs (length s) F
-    → l ≡ paddedInto F b s scratch → r ≡ tab (bandOf binary64 tap F (take N l)) m → r ≡ band binary64 taps F b s
-banded b tap taps s scratch l r F m N g q o two e p h =
-    h ∙ ap (tab (bandOf binary64 tap F (take N l))) e
-    ∙ of-samples binary64 b tap taps s (take N l) scratch F N g (ap (take N) (p ∙ ap (λ (k : ℕ). written (paddedAt F b s) k scratch) (sym o))) (omega arith)
+banded : (b : Border) (taps s scratch l r : List Float) (F m N : ℕ) → N ≡ 2 * m + (F - 2) → N ≡ paddedLength (length s) F → 2 ≤ F → m ≡ pairs (length s) F
+    → l ≡ paddedInto F b s scratch → r ≡ tab (bandOf binary64 taps F (take N l)) m → r ≡ band binary64 taps F b s
+banded b taps s scratch l r F m N q o two e p h =
+    h ∙ ap (tab (bandOf binary64 taps F (take N l))) e
+    ∙ of-samples binary64 b taps s (take N l) scratch F N (ap (take N) (p ∙ ap (λ (k : ℕ). written (paddedAt F b s) k scratch) (sym o))) (omega arith)
 
 analysis-answer-requires : tie.Need-analysis-answer-requires
 analysis-answer-requires c κs = search needs
@@ -86,25 +86,22 @@ add-need : tie.Need-add-need
 add-need c = omega (arith, all c .ready .taps .most)
 
 sub-pad : tie.Need-sub-pad
-sub-pad c = omega (arith, all c .ready .taps .two, all c .ready .enough, all c .approxed)
+sub-pad c = let d = all (c .before .before) in omega (arith, d .ready .taps .two, d .ready .enough, d .approxed)
 
 sub-pad-2 : tie.Need-sub-pad-2
-sub-pad-2 c = omega (arith, all c .ready .taps .two, all c .ready .enough, all c .approxed)
+sub-pad-2 c = let d = all (c .before .before) in omega (arith, d .ready .taps .two, d .ready .enough, d .approxed)
 
 pad-requires : tie.Need-pad-requires
-pad-requires c κs = let d = all (c .before) in (pads _ _ _ _ (d .ready) (d .approxed), omega (arith, whole _ _ _ (d .ready) (d .approxed), d .room))
-
-weave-requires : tie.Need-weave-requires
-weave-requires c κs = let p = c .before .before .before .before .before .before in all (p .before .before) .ready .taps .most
+pad-requires c κs = let d = all (c .before .before .before) in (pads _ _ _ _ (d .ready) (d .approxed), omega (arith, whole _ _ _ (d .ready) (d .approxed), d .room))
 
 slice-reshare-prefix-bands : tie.Need-slice-reshare-prefix-bands
-slice-reshare-prefix-bands c = let p = c .before .before .before .before .before .before .before .before in omega (arith, p .pad .kept .1 .1 .1 .1 .0, count (p .before .before), all (p .before .before) .room)
+slice-reshare-prefix-bands c = let p = c .before .before .before .before in let e = p .before .before .before .before in omega (arith, p .pad .kept .1 .1 .1 .1 .0, count e, all e .room)
 
 slice-aggregate-bands : tie.Need-slice-aggregate-bands
-slice-aggregate-bands c = let p = c .before .before .before .before .before .before .before .before .before in sym (length-take-le _ _ (omega (arith, p .pad .kept .1 .1 .1 .1 .0, count (p .before .before), all (p .before .before) .room)))
+slice-aggregate-bands c = let p = c .before .before .before .before .before in let e = p .before .before .before .before in sym (length-take-le _ _ (omega (arith, p .pad .kept .1 .1 .1 .1 .0, count e, all e .room)))
 
 bands-requires : tie.Need-bands-requires
-bands-requires c κs = let p = c .before .before .before .before .before .before .before .before .before .before .before in let e = p .before .before in let d = all e in record {
+bands-requires c κs = let p = c .before .before .before .before .before .before .before in let e = p .before .before .before .before in let d = all e in record {
   most = d .ready .taps .most;
   both = d .detailed ∙ sym (d .approxed);
   within = omega (arith, d .ready .taps .two, length-take-le (2 * length (now (entry (e .before .before) .args .approx)) + (entry (e .before .before) .args .bank .taps - 2)) (p .pad .last .1 .1 .1 .1 .0) (omega (arith, p .pad .kept .1 .1 .1 .1 .0, count e, d .room)));
@@ -121,15 +118,14 @@ same-length-3 c = search needs
 
 returns-2 : tie.Need-returns-2
 returns-2 c = let b = c .before .before .before .before in
-    let p = b .before .before .before .before .before .before .before .before .before .before .before .before in
-    let w = b .before .before .before .before .before .weave .ensures in
-    let e = p .before .before in
+    let p = b .before .before .before .before .before .before .before .before in
+    let e = p .before .before .before .before in
     let d = all e in
     let a = entry (e .before .before) .args in
     record {
       answer = sym (e .enum-told .given .1) ∙ e .before .before .analysis-answer .ensures;
-      approxes = banded (a .bank .border) _ (a .bank .low) (now (a .line)) (now (a .scratch)) _ _ (a .bank .taps) (length (now (a .approx))) _ (w .lows) refl (count e) (d .ready .taps .two) (d .approxed) (padded-there p) (b .bands .ensures .0);
-      details = banded (a .bank .border) _ (a .bank .high) (now (a .line)) (now (a .scratch)) _ _ (a .bank .taps) (length (now (a .approx))) _ (w .highs) refl (count e) (d .ready .taps .two) (d .approxed) (padded-there p) (b .bands .ensures .1);
+      approxes = banded (a .bank .border) (a .bank .low) (now (a .line)) (now (a .scratch)) _ _ (a .bank .taps) (length (now (a .approx))) _ refl (count e) (d .ready .taps .two) (d .approxed) (padded-there p) (b .bands .ensures .0);
+      details = banded (a .bank .border) (a .bank .high) (now (a .line)) (now (a .scratch)) _ _ (a .bank .taps) (length (now (a .approx))) _ refl (count e) (d .ready .taps .two) (d .approxed) (padded-there p) (b .bands .ensures .1);
       scratched = padded-there p;
     }
 
@@ -146,7 +142,6 @@ analyse-spec =
     sub-pad
     sub-pad-2
     pad-requires
-    weave-requires
     slice-reshare-prefix-bands
     slice-aggregate-bands
     bands-requires

@@ -1,86 +1,94 @@
--- `analysis::work::bands` meets its contract: two places a turn leave one at the most, which is written last.
+-- `analysis::work::bands` meets its contract: each turn writes one place of both bands, which is the pair of sums there.
 use borrow.Author.Needs.{needs}
 use Rattle.analysis.proofs.work.bands.Statement.{statement}
 use Rattle.analysis.proofs.work.bands.Tie as tie
 use Rattle.analysis.proofs.work.bands.Reads as reads
 use Rattle.analysis.proofs.work.bands.Lts as lts
-use Rattle.analysis.proofs.work.by_two.Reads as by-two-reads
 use Rattle.analysis.proofs.work.place.Reads as place-reads
-use Prim.Native.Nat.{_+_, _<_, _≤_}
-use Rattle.border.specs.Rule.{padded}
-use Rattle.analysis.specs.Works.{bandOf, evens, odds}
-use Rattle.numbers.specs.Tests.{kept}
-use Rattle.numbers.specs.Write.{written-full, written-step}
+use Prim.Native.Nat.{_-_, _≤_}
+use Rattle.numbers.specs.Words.{written}
+use Rattle.numbers.specs.Write.{written-full, written-start, written-step}
 use denote.Ref.{now}
 use lib.Ieee.{binary64}
-use lib.ListN.{length}
+use lib.ListN.{length, length-set}
 use mathlib.Core.Path.{_≡_, sym}
 use native.Mathlib.Omega.{arith}
+use Rattle.analysis.specs.Works.{bandOf}
+use Rattle.border.specs.Rule.{padded}
 
-by-two-requires : tie.Need-by-two-requires
-by-two-requires c κs = search needs
+abbrev Inv-loop : tie.InvT-loop
+Inv-loop low high f padded approx₀ detail₀ i₀ approx detail i =
+    (i ≤ length approx₀) × (length approx ≡ length approx₀) × (length detail ≡ length detail₀)
+    × (approx ≡ written (bandOf binary64 low f padded) i approx₀) × (detail ≡ written (bandOf binary64 high f padded) i detail₀)
 
-mul-place : tie.Need-mul-place
+abbrev μ-loop : tie.MeasureT-loop
+μ-loop low high f padded approx₀ detail₀ i₀ approx detail i = length approx₀ - i
+
+loop-holds : tie.Need-loop-holds Inv-loop μ-loop
+loop-holds c = (search needs, search needs, search needs, written-start _ _, written-start _ _)
+
+mul-place : tie.Need-mul-place Inv-loop μ-loop
 mul-place c = search needs
 
-place-requires : tie.Need-place-requires
+place-requires : tie.Need-place-requires Inv-loop μ-loop
 place-requires c κs = search needs
 
-mul-approx : tie.Need-mul-approx
+mul-approx : tie.Need-mul-approx Inv-loop μ-loop
 mul-approx c = search needs
 
-slice-write-approx : tie.Need-slice-write-approx
+slice-write-approx : tie.Need-slice-write-approx Inv-loop μ-loop
 slice-write-approx c = search needs
 
-mul-detail : tie.Need-mul-detail
+mul-detail : tie.Need-mul-detail Inv-loop μ-loop
 mul-detail c = search needs
 
-slice-write-detail : tie.Need-slice-write-detail
+slice-write-detail : tie.Need-slice-write-detail Inv-loop μ-loop
 slice-write-detail c = search needs
 
-same-length : tie.Need-same-length
+add-i : tie.Need-add-i Inv-loop μ-loop
+add-i c = search needs
+
+loop-less : tie.Need-loop-less Inv-loop μ-loop
+loop-less c = search needs
+
+loop-again : tie.Need-loop-again Inv-loop μ-loop
+loop-again c = let l = c .before .before in let a = l .before .before .before .before .args in (
+  search needs,
+  simp length-set (l .loop .inv .1),
+  simp length-set (l .loop .inv .2),
+  written-step (bandOf binary64 (now (a .low)) (a .f) (now (a .padded))) (l .loop .i) (now (a .approx)) (search needs) (l .loop .inv .3) (c .place .ensures .0),
+  written-step (bandOf binary64 (now (a .high)) (a .f) (now (a .padded))) (l .loop .i) (now (a .detail)) (omega arith) (l .loop .inv .4) (c .place .ensures .1),
+)
+
+same-length : tie.Need-same-length Inv-loop μ-loop
 same-length c = search needs
 
-same-length-2 : tie.Need-same-length-2
+same-length-2 : tie.Need-same-length-2 Inv-loop μ-loop
 same-length-2 c = search needs
 
-returns : tie.Need-returns
-returns c = let t = c .before in let b = t .before .before .before .before .before in let s = b .before .before .before .before .before .before in let a = s .args in let g = b .by-two .ensures in let i = b .by-two .result in
-    let q : length (now (a .approx)) ≡ length (now (a .detail)) = sym (s .pre .both) in
-    let low = bandOf binary64 (evens (now (a .taps))) (a .f) (now (a .padded)) in let high = bandOf binary64 (odds (now (a .taps))) (a .f) (now (a .padded)) in
-    let h : i < length (now (a .approx)) = omega (arith, t .if1 .taken, b .by-two .kept .1 .1 .1 .0) in (
-      written-full low (i + 1) (now (a .approx)) (written-step low i (now (a .approx)) h (g .approxes) (c .place .ensures .0)) (omega arith) (omega (arith, g .nearly)),
-      rw q (written-full high (i + 1) (now (a .detail)) (written-step high i (now (a .detail)) (omega arith) (g .details) (c .place .ensures .1)) (omega arith) (omega (arith, g .nearly))),
-    )
-
-same-length-3 : tie.Need-same-length-3
-same-length-3 c = search needs
-
-same-length-4 : tie.Need-same-length-4
-same-length-4 c = search needs
-
-returns-2 : tie.Need-returns-2
-returns-2 c = let b = c .before .before .before .before .before in let s = b .before .before .before .before .before .before in let a = s .args in let g = b .by-two .ensures in let i = b .by-two .result in
-    let q : length (now (a .approx)) ≡ length (now (a .detail)) = sym (s .pre .both) in
-    let h : length (now (a .approx)) ≤ i = omega (arith, c .if1 .left, b .by-two .kept .1 .1 .1 .0) in (
-      written-full (bandOf binary64 (evens (now (a .taps))) (a .f) (now (a .padded))) i (now (a .approx)) (g .approxes) (g .within) h,
-      rw q (written-full (bandOf binary64 (odds (now (a .taps))) (a .f) (now (a .padded))) i (now (a .detail)) (g .details) (omega (arith, g .within)) (omega arith)),
+returns : tie.Need-returns Inv-loop μ-loop
+returns c = let l = c .before in let s = l .before .before .before .before in let a = s .args in
+    let q : length (now (a .approx)) ≡ length (now (a .detail)) = sym (s .pre .both) in (
+      written-full (bandOf binary64 (now (a .low)) (a .f) (now (a .padded))) (l .loop .i) (now (a .approx)) (l .loop .inv .3) (search needs) (omega arith),
+      rw q (written-full (bandOf binary64 (now (a .high)) (a .f) (now (a .padded))) (l .loop .i) (now (a .detail)) (l .loop .inv .4) (omega arith) (omega arith)),
     )
 
 pub bands-spec : {M : Type 1} → statement M
 bands-spec =
     tie.close
     (tie.spec
-    by-two-requires
+    Inv-loop
+    μ-loop
+    loop-holds
     mul-place
     place-requires
     mul-approx
     slice-write-approx
     mul-detail
     slice-write-detail
+    add-i
+    loop-less
+    loop-again
     same-length
     same-length-2
-    returns
-    same-length-3
-    same-length-4
-    returns-2)
+    returns)

@@ -6,49 +6,40 @@ use Rattle.analysis.proofs.work.place.Reads as reads
 use Rattle.analysis.proofs.work.place.Lts as lts
 use Rattle.analysis.proofs.work.tap.Reads as tap-reads
 use Prim.Native.Nat.{_-_, _≤_}
-use Rattle.border.specs.Rule.{padded}
 use Rattle.analysis.specs.Taps.{sum-end, sum-start, sum-step}
-use Rattle.analysis.specs.Works.{evens, odds, tapSum}
 use denote.Ref.{now}
 use lib.Ieee.{binary64}
 use mathlib.Core.Path.{_≡_}
+use Rattle.analysis.specs.Works.{tapSum}
+use Rattle.border.specs.Rule.{padded}
 
 abbrev Inv-loop : tie.InvT-loop
-Inv-loop taps f padded from sums₀ j₀ sums j =
-    (j ≤ f) × (sums .approx ≡ tapSum binary64 (evens taps) padded from j) × (sums .detail ≡ tapSum binary64 (odds taps) padded from j)
+Inv-loop low high f padded from sums₀ j₀ sums j =
+    (j ≤ f) × (sums .approx ≡ tapSum binary64 low padded from j) × (sums .detail ≡ tapSum binary64 high padded from j)
 
 abbrev μ-loop : tie.MeasureT-loop
-μ-loop taps f padded from sums₀ j₀ sums j = f - j
+μ-loop low high f padded from sums₀ j₀ sums j = f - j
 
 loop-holds : tie.Need-loop-holds Inv-loop μ-loop
-loop-holds c = (search needs, sum-start _ _ _, sum-start _ _ _)
+loop-holds c = let a = c .before .args in (search needs, sum-start (now (a .low)) (now (a .padded)) (a .from), sum-start (now (a .high)) (now (a .padded)) (a .from))
 
 mul-tap : tie.Need-mul-tap Inv-loop μ-loop
 mul-tap c = search needs
 
-mul-tap-2 : tie.Need-mul-tap-2 Inv-loop μ-loop
-mul-tap-2 c = search needs
-
 element-copy-out-tap : tie.Need-element-copy-out-tap Inv-loop μ-loop
 element-copy-out-tap c = search needs
 
-mul-tap-3 : tie.Need-mul-tap-3 Inv-loop μ-loop
-mul-tap-3 c = search needs
-
-add-tap : tie.Need-add-tap Inv-loop μ-loop
-add-tap c = search needs
-
-mul-tap-4 : tie.Need-mul-tap-4 Inv-loop μ-loop
-mul-tap-4 c = search needs
+mul-tap-2 : tie.Need-mul-tap-2 Inv-loop μ-loop
+mul-tap-2 c = search needs
 
 element-copy-out-tap-2 : tie.Need-element-copy-out-tap-2 Inv-loop μ-loop
 element-copy-out-tap-2 c = search needs
 
-add-tap-2 : tie.Need-add-tap-2 Inv-loop μ-loop
-add-tap-2 c = search needs
+add-tap : tie.Need-add-tap Inv-loop μ-loop
+add-tap c = search needs
 
-mul-tap-5 : tie.Need-mul-tap-5 Inv-loop μ-loop
-mul-tap-5 c = search needs
+mul-tap-3 : tie.Need-mul-tap-3 Inv-loop μ-loop
+mul-tap-3 c = search needs
 
 shared-slice-read-tap : tie.Need-shared-slice-read-tap Inv-loop μ-loop
 shared-slice-read-tap c = search needs
@@ -65,14 +56,14 @@ loop-less c = search needs
 loop-again : tie.Need-loop-again Inv-loop μ-loop
 loop-again c = let l = c .before .before .before .before .before in let a = l .before .before .args in (
   search needs,
-  sum-step binary64 (evens (now (a .taps))) (now (a .padded)) (a .from) (l .loop .j) (l .loop .inv .1) (c .tap .ensures .0),
-  sum-step binary64 (odds (now (a .taps))) (now (a .padded)) (a .from) (l .loop .j) (l .loop .inv .2) (c .tap .ensures .1),
+  sum-step binary64 (now (a .low)) (now (a .padded)) (a .from) (l .loop .j) (l .loop .inv .1) (c .tap .ensures .0),
+  sum-step binary64 (now (a .high)) (now (a .padded)) (a .from) (l .loop .j) (l .loop .inv .2) (c .tap .ensures .1),
 )
 
 returns : tie.Need-returns Inv-loop μ-loop
 returns c = let l = c .before in let a = l .before .before .args in (
-  sum-end binary64 (evens (now (a .taps))) (now (a .padded)) (a .from) (l .loop .j) (a .f) (l .loop .inv .1) (search needs) (search needs),
-  sum-end binary64 (odds (now (a .taps))) (now (a .padded)) (a .from) (l .loop .j) (a .f) (l .loop .inv .2) (search needs) (search needs),
+  sum-end binary64 (now (a .low)) (now (a .padded)) (a .from) (l .loop .j) (a .f) (l .loop .inv .1) (search needs) (search needs),
+  sum-end binary64 (now (a .high)) (now (a .padded)) (a .from) (l .loop .j) (a .f) (l .loop .inv .2) (search needs) (search needs),
 )
 
 pub place-spec : {M : Type 1} → statement M
@@ -83,14 +74,11 @@ place-spec =
     μ-loop
     loop-holds
     mul-tap
-    mul-tap-2
     element-copy-out-tap
-    mul-tap-3
-    add-tap
-    mul-tap-4
+    mul-tap-2
     element-copy-out-tap-2
-    add-tap-2
-    mul-tap-5
+    add-tap
+    mul-tap-3
     shared-slice-read-tap
     tap-requires
     add-j
