@@ -1,10 +1,11 @@
 // Both bands of a padded line, for entries to share: sizes have been tested.
 ghost use mathlib.Core.Path.{_≡_};
-ghost use Prim.Native.Nat.{ℕ, _*_};
+ghost use Prim.Native.Nat.{_*_};
 ghost use lib.ListN.{length};
 ghost use lib.Ieee.{binary64, add, mul};
 ghost use Rattle.numbers.specs.Words.{tab};
 ghost use Rattle.analysis.specs.Works.{tapSum, bandOf, Placeable, Bandable};
+ghost use Rattle.border.specs.Rule.{padded};
 
 // Both sums of a place travel through the taps as one pair.
 pub struct Pair {

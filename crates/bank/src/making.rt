@@ -107,6 +107,6 @@ pub fn mirrored(low: &[f64], border: Border) -> Made
         return refused(border);
     }
     let l = held(low);
-    let h = low_pass_to_high(low);
-    done(l, h, f, border)
+    let m = low_pass_to_high(low);
+    done(l, m, f, border)
 }

@@ -5,7 +5,7 @@ use mathlib.Core.List.{List}
 use Prim.Native.Nat.{ℕ, _+_, _*_, _≤_, _<_}
 use lib.ListN.{take, drop}
 use lib.Ieee.{Float}
-use Rattle.numbers.specs.Words.{longest, plusZero, placed}
+use Rattle.numbers.specs.Words.{longest, plusZero, replaced}
 use Rattle.border.specs.declared.Border.{Border}
 use Rattle.border.specs.declared.Border.the-variants.{Reflect101}
 use Rattle.border.specs.declared.rule.Place.{Place}
@@ -58,7 +58,7 @@ pub record Fillable (b : Border) (n len left from count : ℕ) : Type 0 where
 
 -- those places, filled
 abbrev pub filled : Border → ℕ → ℕ → ℕ → ℕ → List Float → List Float
-filled b left n from count x = placed (λ i. padded plusZero b (take n (drop left x)) left (from + i)) from count x
+filled b left n from count x = replaced (padded plusZero b (take n (drop left x)) left) from count x
 
 -- n numbers from `from` on can go to the n places from `to` on, within a list of `len`
 pub record Movable (len from n to : ℕ) : Type 0 where

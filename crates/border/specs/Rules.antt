@@ -4,7 +4,7 @@ use mathlib.Core.Bool.{Bool, true, false, cond}
 use mathlib.Core.List.{List}
 use mathlib.Core.Logic.{_≢_}
 use Prim.Native.Nat.{ℕ, _+_, _-_, _*_, _%_, _≤_, _<_}
-use native.Mathlib.Nat.{mod-lt, le-refl}
+use native.Mathlib.Nat.{mod-lt}
 use native.Mathlib.Omega.{arith}
 use borrow.Author.Tests.{lt-ltb, le-ltb, eq-eqb, ne-eqb, ltb-true, ltb-false, eqb-true, eqb-false}
 use lib.Dec.{ltb, eqb}
@@ -113,10 +113,3 @@ value-zero s p e = sym (ap (valueOf plusZero s) e)
 pub padded-by : {A : Type 0} (z : A) (b : Border) (s : List A) (left q : ℕ) {p : Place} {o : Source} {r : A} → p ≡ placeIn left q → o ≡ source b p (length s) → r ≡ valueOf z s o → r ≡ padded z b s left q
 unfolding padded
 padded-by z b s left q e f g = g ∙ ap (valueOf z s) (f ∙ ap (λ (x : Place). source b x (length s)) e)
-
--- the first place past the line
-pub padded-next : {A : Type 0} (z : A) (b : Border) (s : List A) (left : ℕ) → padded z b s left (length s + left) ≡ valueOf z s (outside b (At (length s)) (length s))
-unfolding padded source
-padded-next z b s left =
-    let e : length s + left - left ≡ length s = omega arith in
-    simp (le-ltb (length s + left) left (omega arith), e, le-ltb (length s) (length s) (le-refl (length s)))

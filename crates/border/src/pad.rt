@@ -1,6 +1,6 @@
 // Padded lines, written out at the front of a lent buffer or within it. Work for entries to share: it asks for sizes.
 ghost use mathlib.Core.Path.{_≡_};
-ghost use Prim.Native.Nat.{ℕ, _+_, _≤_};
+ghost use Prim.Native.Nat.{_+_, _≤_};
 ghost use lib.ListN.{length, take, drop};
 ghost use Rattle.numbers.specs.Words.{plusZero, at, written, placed};
 ghost use Rattle.border.specs.Rule.{padded};

@@ -1,6 +1,6 @@
 // The border rule: which sample stands at a place of a line, or zero.
 ghost use mathlib.Core.Path.{_≡_};
-ghost use Prim.Native.Nat.{ℕ, _-_, _<_, _≤_};
+ghost use Prim.Native.Nat.{_-_, _<_, _≤_};
 ghost use lib.ListN.{length};
 ghost use Rattle.numbers.specs.Words.{longest, plusZero};
 ghost use Rattle.border.specs.Rule.{nearest, modulo, across, outside, source, placeIn, valueOf, padded};

@@ -12,7 +12,7 @@ use Rattle.border.specs.declared.Border.{Border}
 use Rattle.border.specs.Rule.{padded}
 use Rattle.convolution.specs.declared.Convolution.{Convolution}
 use Rattle.convolution.specs.declared.Convolution.the-variants.{Done, InOutSizesMismatch, ZeroedBaseSize, ScratchSize, MisconfiguredFilterCenter, Limit, Reflect101Pad}
-use Rattle.convolution.specs.Pads.{beyond, leftPad, rightPad, needed, placed101}
+use Rattle.convolution.specs.Pads.{beyond, leftPad, rightPad, needed, tooFar}
 use Rattle.convolution.specs.Sums.{convolution}
 
 -- document 01's number of an answer, and the values that it carries
@@ -43,7 +43,7 @@ answerOf b n o f c s =
     (cond (eqb f 0) Done
     (cond (ltb s (needed n f c)) (ScratchSize (needed n f c) s)
     (cond (leb f (natAbs c)) (MisconfiguredFilterCenter (natAbs c) f)
-    (cond (placed101 b n (leftPad f c) (rightPad f c)) Reflect101Pad
+    (cond (tooFar b n (leftPad f c) (rightPad f c)) Reflect101Pad
     Done))))))
 
 -- the output: an empty kernel copies

@@ -3,7 +3,7 @@ use mathlib.Core.Path.{_≡_, refl, _∙_, ap, subst, sym}
 use lib.Dec.{ltb, T}
 use lib.IntN.{pos, negsuc, _-ℤ_, ℤ, natAbs}
 use Prim.Native.Nat.{_%_, _-_, _/_, _<_, _≤_, suc, zero, ℕ, _+_}
-use Rattle.convolution.specs.Pads.{above, leftPad, Kernel, rightPad, ShortPads, beyond}
+use Rattle.convolution.specs.Pads.{above, leftPad, rightPad, beyond}
 use borrow.Author.Tests.{lt-ltb, ltb-true, le-ltb, ltb-false}
 use mathlib.Core.Bool.{Bool, cond, false, true, _||_, or-false}
 use native.Mathlib.Omega.{arith}
@@ -13,6 +13,7 @@ use mir.Syntax.{w64}
 use mir.Val.{SFits, ofZ, toZ}
 use mir.ValLaws.{toZ-ofZ}
 use Rattle.numbers.specs.Tests.{neither}
+use Rattle.convolution.specs.Works.{Kernel, ShortPads}
 
 -- x - e, cut at 0
 over : (x e : ℕ) → above (pos x -ℤ pos e) ≡ x - e

@@ -19,14 +19,3 @@ unfoldable pub convolution : Format → Border → List Float → List Float →
 unfolding convolved
 convolution f b s kernel c =
     tab (λ x. convolved f (at kernel) (λ i. padded plusZero b s (leftPad (length kernel) c) (x + i)) (length kernel - 1)) (length s)
-
--- ---- the same sum over a line that holds the padded samples
-
--- tap 0 and i more, at place x of the line
-unfoldable pub kernelSum : Format → List Float → List Float → ℕ → ℕ → Float
-unfolding convolved
-kernelSum f kernel line x i = convolved f (at kernel) (λ j. at line (x + j)) i
-
--- all of the taps
-abbrev pub placeOf : Format → List Float → List Float → ℕ → Float
-placeOf f kernel line x = kernelSum f kernel line x (length kernel - 1)

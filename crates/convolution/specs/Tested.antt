@@ -5,7 +5,7 @@ use Rattle.convolution.specs.declared.Convolution.the-variants.{Done}
 use Rattle.convolution.specs.Convolutions.{numberOf, answerOf}
 use Prim.Native.Nat.{_+_, _<_, _≤_, suc, zero, ℕ}
 use Rattle.border.specs.Reach.{Paddable}
-use Rattle.convolution.specs.Pads.{Kernel, beyond, leftPad, needed, placed101, rightPad, tooFar}
+use Rattle.convolution.specs.Pads.{beyond, leftPad, needed, tooFar, rightPad, padOver}
 use Rattle.convolution.specs.Places.{within}
 use Rattle.numbers.specs.Tests.{neither, passed}
 use Rattle.numbers.specs.Words.{at, longest}
@@ -14,6 +14,7 @@ use lib.Dec.{eqb, leb, lit<, ltb}
 use lib.IntN.{natAbs, ℤ}
 use mathlib.Core.Bool.{false, not}
 use native.Mathlib.Omega.{arith}
+use Rattle.convolution.specs.Works.{Kernel}
 
 -- a kernel that is not empty
 pub record Convolving (b : Border) (n o f : ℕ) (c : ℤ) (s : ℕ) : Type 0 where
@@ -22,7 +23,7 @@ pub record Convolving (b : Border) (n o f : ℕ) (c : ℤ) (s : ℕ) : Type 0 wh
   pub some : 0 < n
   pub both : o ≡ n
   pub room : needed n f c ≤ s
-  pub near : placed101 b n (leftPad f c) (rightPad f c) ≡ false
+  pub near : tooFar b n (leftPad f c) (rightPad f c) ≡ false
 
 pub some-taps : (n : ℕ) → eqb n 0 ≡ false → 0 < n
 some-taps zero e = absurd (eqb-false 0 0 e refl)
@@ -37,7 +38,7 @@ convolving b n o f c s h e =
     let p4 = simp (ne-eqb f 0 h) at (p3 .1) in
     let p5 = passed numberOf (ltb s (needed n f c)) p4 (lit< tt) refl in
     let p6 = passed numberOf (leb f (natAbs c)) (p5 .1) (lit< tt) refl in
-    let p7 = passed numberOf (placed101 b n (leftPad f c) (rightPad f c)) (p6 .1) (lit< tt) refl in
+    let p7 = passed numberOf (tooFar b n (leftPad f c) (rightPad f c)) (p6 .1) (lit< tt) refl in
     let w = within n f c (p1 .0) in
     record {
       kernel = record { some = some-taps f (ne-eqb f 0 h); most = w .1; small = w .2 };
@@ -58,12 +59,12 @@ copying b n o f c s e =
 
 -- the pads may be asked for
 pub pads : {b : Border} {n o f : ℕ} {c : ℤ} {s left right : ℕ} → Convolving b n o f c s → left ≡ leftPad f c → right ≡ rightPad f c → Paddable b n left right
-unfolding tooFar
+unfolding padOver
 pads {b} {n} {o} {f} {c} p el er = record {
   some = p .some;
   few = p .limit;
   near = λ e h.
-      let t : tooFar n (leftPad f c) (rightPad f c) ≡ false = subst (λ (x : Border). placed101 x n (leftPad f c) (rightPad f c) ≡ false) e (p .near) in
+      let t : padOver n (leftPad f c) (rightPad f c) ≡ false = subst (λ (x : Border). tooFar x n (leftPad f c) (rightPad f c) ≡ false) e (p .near) in
       let q = neither (ltb n (leftPad f c + 2)) (ltb n (rightPad f c + 2)) (simp (lt-ltb 1 n h) at t) in
       (omega (arith, ltb-false n (leftPad f c + 2) (q .0)), omega (arith, ltb-false n (rightPad f c + 2) (q .1)));
 }

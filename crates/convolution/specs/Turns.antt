@@ -3,7 +3,7 @@ use mathlib.Core.Path.{_≡_, sym, ap, _∙_}
 use lib.Ieee.{Float, Format, add, mul, nan}
 use Prim.Native.Nat.{_+_, _-_, _<_, _≤_, suc, zero, ℕ}
 use Rattle.border.specs.declared.Border.{Border}
-use Rattle.convolution.specs.Sums.{convolved, kernelSum, placeOf, convolution}
+use Rattle.convolution.specs.Sums.{convolved, convolution}
 use Rattle.numbers.specs.Words.{at, placed, tab, written, plusZero}
 use Rattle.numbers.specs.Write.{getD-placed-before, getD-tab, length-placed, length-tab, length-written, take-written, tab-getD, written-all, written-two}
 use lib.ListN.{length, set, getD, take}
@@ -16,6 +16,7 @@ use Rattle.numbers.specs.Places.{getD-placed-in, getD-written-in, tab-same, pla
 use lib.IntN.{ℤ}
 use lib.Seq.{ext-getD}
 use native.Mathlib.Decide.{decLt}
+use Rattle.convolution.specs.Works.{kernelSum, placeOf}
 
 -- a loop over the taps: the first product, one more tap, and all of them
 pub sum-start : (f : Format) (kernel line : List Float) (x : ℕ) {r : Float} → r ≡ mul f (at line x) (at kernel 0) → r ≡ kernelSum f kernel line x (1 - 1)

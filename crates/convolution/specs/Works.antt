@@ -1,10 +1,41 @@
 -- What the functions behind convolution ask for and leave. Definitions only.
 use mathlib.Core.Path.{_≡_}
 use mathlib.Core.List.{List}
-use Prim.Native.Nat.{ℕ, _+_, _≤_, _<_}
-use lib.Ieee.{Float, binary64}
-use Rattle.convolution.specs.Sums.{kernelSum}
+use Prim.Native.Nat.{ℕ, _+_, _-_, _≤_, _<_}
+use lib.IntN.{ℤ, natAbs}
+use lib.ListN.{length}
+use lib.Ieee.{Float, Format, binary64}
+use Rattle.border.specs.declared.rule.Place.{Place}
+use Rattle.numbers.specs.Words.{at}
+use Rattle.convolution.specs.Pads.{centreOf}
+use Rattle.convolution.specs.Sums.{convolved}
 use Rattle.border.specs.Rule.{padded}
+
+-- a kernel that is not empty, and a centre within its limit
+pub record Kernel (f : ℕ) (c : ℤ) : Type 0 where
+  pub some : 0 < f
+  pub most : f ≤ 64
+  pub small : natAbs c ≤ 2147483648
+
+-- pads of such a kernel
+pub record ShortPads (left right : ℕ) : Type 0 where
+  pub before : left ≤ 4294967296
+  pub behind : right ≤ 4294967296
+
+-- a centre within its limit
+abbrev pub Small : Place → Type 0
+Small p = natAbs (centreOf p) ≤ 2147483648
+
+-- ---- the sum over a line that holds the padded samples
+
+-- tap 0 and i more, at place x of the line
+unfoldable pub kernelSum : Format → List Float → List Float → ℕ → ℕ → Float
+unfolding convolved
+kernelSum f kernel line x i = convolved f (at kernel) (λ j. at line (x + j)) i
+
+-- all of the taps
+abbrev pub placeOf : Format → List Float → List Float → ℕ → Float
+placeOf f kernel line x = kernelSum f kernel line x (length kernel - 1)
 
 -- a kernel of f over `count` places from x on of a padded line
 pub record Summable (f padded x count : ℕ) : Type 0 where

@@ -1,8 +1,9 @@
 // The pads of a kernel about its centre, and what they ask of the scratch.
 ghost use mathlib.Core.Path.{_≡_};
 ghost use Prim.Native.Nat.{_-_, _<_};
-ghost use Rattle.convolution.specs.Pads.{beyond, tooFar, placed101, centreOf, leftPad, rightPad, Kernel, ShortPads};
+ghost use Rattle.convolution.specs.Pads.{beyond, padOver, tooFar, centreOf, leftPad, rightPad};
 ghost use Rattle.convolution.specs.Sizes.{ScratchSized};
+ghost use Rattle.convolution.specs.Works.{Kernel, ShortPads};
 use border::Border;
 use border::rule::Place;
 use numbers::less;
@@ -71,7 +72,7 @@ pub fn from_filter(f: usize, centre: Place) -> Pads
 // A pad over n - 2, with n above 1.
 fn over(n: usize, left: usize, right: usize) -> bool
     requires { ⌜ ShortPads left right ⌝ }
-    ensures { λ r. ⌜ r ≡ tooFar n left right ⌝ }
+    ensures { λ r. ⌜ r ≡ padOver n left right ⌝ }
 {
     if n <= 1 {
         return false;
@@ -85,7 +86,7 @@ fn over(n: usize, left: usize, right: usize) -> bool
 // Reflect101 alone does not reach that far.
 pub fn too_far(border: Border, n: usize, left: usize, right: usize) -> bool
     requires { ⌜ ShortPads left right ⌝ }
-    ensures { λ r. ⌜ r ≡ placed101 border n left right ⌝ }
+    ensures { λ r. ⌜ r ≡ tooFar border n left right ⌝ }
 {
     match border {
         Border::Clamp => false,

@@ -3,9 +3,8 @@ ghost use mathlib.Core.Path.{_≡_};
 ghost use Prim.Native.Nat.{_+_, _-_, _≤_, _<_};
 ghost use lib.ListN.{length};
 ghost use lib.Ieee.{binary64};
-ghost use Rattle.numbers.specs.Words.{tab, written, placed};
-ghost use Rattle.convolution.specs.Sums.{placeOf};
-ghost use Rattle.convolution.specs.Works.{Summable, Summing, Fours};
+ghost use Rattle.numbers.specs.Words.{tab, written, replaced};
+ghost use Rattle.convolution.specs.Works.{Summable, Summing, Fours, placeOf};
 ghost use Rattle.border.specs.Rule.{padded};
 
 // Four sums that travel through the taps together.
@@ -73,7 +72,7 @@ fn fours(kernel: &[f64], padded: &[f64], out: &mut [f64]) -> usize
 // The places from `from` on, one a turn.
 fn rest(kernel: &[f64], padded: &[f64], out: &mut [f64], from: usize)
     requires { ⌜ Summing (length (now kernel)) (length (now padded)) (length (now out)) × (from ≤ length (now out)) ⌝ }
-    ensures { λ _. ⌜ now (out .exit) ≡ placed (λ k. placeOf binary64 (now (kernel .entry)) (now (padded .entry)) (from + k)) from (length (now (out .entry)) - from) (now (out .entry)) ⌝ }
+    ensures { λ _. ⌜ now (out .exit) ≡ replaced (placeOf binary64 (now (kernel .entry)) (now (padded .entry))) from (length (now (out .entry)) - from) (now (out .entry)) ⌝ }
 {
     let mut x = from;
     while x < out.len() {

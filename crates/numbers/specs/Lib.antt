@@ -2,5 +2,4 @@
 pub mod Words
 pub mod Write
 pub mod Places
-pub mod Lent
 pub mod Tests

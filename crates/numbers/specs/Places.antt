@@ -1,14 +1,14 @@
 -- Laws of places within one list: it is read by place, compared by place, and lent in parts.
 use mathlib.Core.Path.{_≡_, refl, sym, ap, _∙_}
-use mathlib.Core.Logic.{_⊎_, inl, inr, ⊎-elim}
+use mathlib.Core.Logic.{_⊎_, ⊎-elim}
 use mathlib.Core.List.{List, [], _∷_, _++_}
 use Prim.Native.Nat.{ℕ, zero, suc, _+_, _-_, _≤_, _<_}
 use native.Mathlib.Nat.{le-of-suc-le-suc, not-suc-le-zero}
 use native.Mathlib.Decide.{decLt}
 use native.Mathlib.Omega.{arith}
-use lib.ListN.{length, getD, take, drop, set, length-append, length-drop, length-take, length-set, List·getD-append, List·getD-eq-default}
+use lib.ListN.{length, getD, take, drop, length-drop, length-take, List·getD-append}
 use lib.Seq.{ext-getD, length-take-le, getD-take, getD-drop, drop-drop, getD-append-add}
-use borrow.Rule.Slice.PartMut.{putMid, post-is, mid-len, same-len-mid}
+use borrow.Rule.Slice.PartMut.{putMid, mid-len, same-len-mid}
 use Rattle.numbers.specs.Words.{tab, written, placed}
 use Rattle.numbers.specs.Write.{length-tab, getD-tab, length-placed, drop-placed, getD-placed-before, getD-placed-behind, drop-written, take-written}
 
@@ -75,12 +75,6 @@ module _ {A : Type 0} where
       ∙ ap (drop r) (drop-written g n (drop s x))
       ∙ sym (f x)
 
-  -- the same places by another rule that agrees there
-  pub placed-same : (d : A) (g h : ℕ → A) (s n : ℕ) (x : List A) → s + n ≤ length x → ((i : ℕ) → i < n → g i ≡ h i) → placed g s n x ≡ placed h s n x
-  placed-same d g h s n x b e =
-      is-placed d h s n x (placed g s n x) b (length-placed g s n x b)
-      (λ j k. getD-placed-before g s n x j d (omega arith) k) (λ i k. getD-placed-in g s n x i d b k ∙ e i k) (λ j k. getD-placed-behind g s n x j d (omega arith) k)
-
   -- ---- a lent part, by place: ys in the places a .. e - 1
   module _ (d : A) (a e : ℕ) (x ys : List A) (h : a ≤ e) (k : e ≤ length x) (q : length ys ≡ e - a) where
     pub lent-length : length (putMid a (e - a) x ys) ≡ length x
@@ -109,11 +103,6 @@ module _ {A : Type 0} where
         ∙ getD-drop (e - a) (drop a x) r d
         ∙ getD-drop a x ((e - a) + r) d
         ∙ ap (λ (n : ℕ). getD x n d) u
-
-  -- a lent part that comes back as a table
-  pub lent-placed : (g : ℕ → A) (a e : ℕ) (x : List A) {ys : List A} → a ≤ e → ys ≡ tab g (e - a) → putMid a (e - a) x ys ≡ placed g a (e - a) x
-  unfolding placed written
-  lent-placed g a e x h q = ap (λ (y : List A). take a x ++ (y ++ drop (e - a) (drop a x))) q
 
   -- tables by two rules that agree
   pub tab-same : (g h : ℕ → A) (n : ℕ) → ((i : ℕ) → i < n → g i ≡ h i) → tab g n ≡ tab h n

@@ -1,7 +1,7 @@
 -- The words that every crate's definitions use. Definitions only.
-use mathlib.Core.Bool.{Bool, true, false}
+use mathlib.Core.Bool.{false}
 use mathlib.Core.List.{List, [], _∷_, _++_}
-use Prim.Native.Nat.{ℕ, zero, suc}
+use Prim.Native.Nat.{ℕ, zero, suc, _+_}
 use lib.ListN.{getD, take, drop}
 use lib.IntN.{pos}
 use lib.Ieee.{Float, fin, nan}
@@ -29,11 +29,15 @@ module _ {A : Type 0} where
   tab g zero = []
   tab g (suc n) = tab g n ++ (g n ∷ [])
 
-  -- x with its first n places so, and the rest as it was
+  -- x with its first n places as g has them, and the rest as it was
   unfoldable pub written : (ℕ → A) → ℕ → List A → List A
   written g n x = tab g n ++ drop n x
 
-  -- x with n places from s on so, and the rest as it was
+  -- x with n places from s on as g has them from 0 on, and the rest as it was
   unfoldable pub placed : (ℕ → A) → ℕ → ℕ → List A → List A
   unfolding written
   placed g s n x = take s x ++ written g n (drop s x)
+
+  -- the same as g has them by their own places
+  abbrev pub replaced : (ℕ → A) → ℕ → ℕ → List A → List A
+  replaced g s n x = placed (λ k. g (s + k)) s n x

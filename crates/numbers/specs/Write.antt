@@ -5,10 +5,10 @@ use Prim.Native.Nat.{ℕ, zero, suc, _+_, _-_, _≤_, _<_}
 use native.Mathlib.Numerals.{add-one}
 use native.Mathlib.Omega.{arith}
 use lib.ListN.{length, getD, take, drop, set, length-append, length-drop, take-append-drop, List·getD-append}
-use lib.Seq.{drop-cons, set-at, getD-at, take-at, drop-at, drop-length, append-snoc, ext-getD, length-take-le, getD-take, getD-drop, drop-drop}
+use lib.Seq.{drop-cons, set-at, getD-at, take-at, drop-at, drop-length, append-snoc, ext-getD, length-take-le, getD-take, getD-drop}
 use mathlib.Core.Logic.{⊎-elim}
 use native.Mathlib.Nat.{eq-or-lt-of-le, le-of-suc-le-suc, zero-add, suc-add}
-use Rattle.numbers.specs.Words.{tab, written, placed}
+use Rattle.numbers.specs.Words.{tab, written, placed, at}
 
 module _ {A : Type 0} where
   pub length-tab : (g : ℕ → A) (n : ℕ) → length (tab g n) ≡ n
@@ -149,15 +149,3 @@ module _ {A : Type 0} where
       ∙ ap (λ (l : List A). getD (drop n l) r d) (drop-placed g s n x h)
       ∙ ap (λ (l : List A). getD l r d) (drop-written g n (drop s x))
       ∙ sym (f x)
-
-  -- a part that lies behind the places written is as it was
-  pub part-behind : (g : ℕ → A) (s n : ℕ) (x : List A) (a k : ℕ) → s ≤ length x → s + n ≤ a → take k (drop a (placed g s n x)) ≡ take k (drop a x)
-  part-behind g s n x a k h b =
-      let r = a - (s + n) in
-      let q : s + (n + r) ≡ a = omega arith in
-      let f : (l : List A) → drop a l ≡ drop r (drop n (drop s l)) = λ l. ap (λ (i : ℕ). drop i l) (sym q) ∙ sym (drop-drop (n + r) s l) ∙ sym (drop-drop r n (drop s l)) in
-      ap (take k)
-      (f (placed g s n x)
-      ∙ ap (λ (l : List A). drop r (drop n l)) (drop-placed g s n x h)
-      ∙ ap (drop r) (drop-written g n (drop s x))
-      ∙ sym (f x))

@@ -9,7 +9,7 @@ use Rattle.convolution.proofs.pads.beyond.Reads as beyond-reads
 use Rattle.convolution.proofs.pads.from_filter.Reads as from-filter-reads
 use Rattle.convolution.proofs.pads.too_far.Reads as too-far-reads
 use Rattle.convolution.specs.Convolutions.{answerOf}
-use Rattle.convolution.specs.Pads.{beyond, Kernel, ShortPads, centreOf, leftPad, needed, placed101, rightPad}
+use Rattle.convolution.specs.Pads.{beyond, centreOf, leftPad, needed, tooFar, rightPad}
 use Rattle.convolution.specs.Tested.{kernel-of}
 use borrow.Author.Tests.{eq-eqb, ne-eqb, le-leb, le-ltb, lt-leb, lt-ltb}
 use mathlib.Core.Path.{_∙_, sym, _≡_}
@@ -18,6 +18,7 @@ use Rattle.convolution.specs.Places.{nears, within}
 use Rattle.numbers.specs.Words.{at, longest}
 use lib.IntN.{natAbs}
 use native.Mathlib.Omega.{arith}
+use Rattle.convolution.specs.Works.{Kernel, ShortPads}
 
 limits : (c : tie.Else4) → let a = c .before .before .before .before .before .args in (a .line ≤ longest) × (a .f ≤ 64) × (natAbs (centreOf (a .centre)) ≤ 2147483648)
 limits c = let e = c .before .before .before in within _ _ _ (sym (e .before .beyond .ensures) ∙ e .if1 .left)
@@ -36,7 +37,7 @@ short c = let a = c .before .before .before .before .before .before .args in
     record { before = omega (arith, n .before, c .from-filter .ensures .0); behind = omega (arith, n .behind, c .from-filter .ensures .1) }
 
 far : (c : tie.After-too-far) → let f = c .before .before .before .before in let a = f .before .before .before .before .before .before .args in
-    c .too-far .result ≡ placed101 (a .border) (a .line) (leftPad (a .f) (centreOf (a .centre))) (rightPad (a .f) (centreOf (a .centre)))
+    c .too-far .result ≡ tooFar (a .border) (a .line) (leftPad (a .f) (centreOf (a .centre))) (rightPad (a .f) (centreOf (a .centre)))
 far c = let f = c .before .before .before .before in c .too-far .ensures ∙ simp (f .from-filter .ensures .0, f .from-filter .ensures .1)
 
 beyond-requires : tie.Need-beyond-requires

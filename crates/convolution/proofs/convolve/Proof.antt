@@ -16,7 +16,7 @@ use Rattle.convolution.proofs.pads.from_filter.Reads as from-filter-rea
 use Rattle.convolution.proofs.pads.split.Reads as split-reads
 use Rattle.convolution.proofs.work.sums.Reads as sums-reads
 use Prim.Native.Nat.{_<_, _+_, ℕ}
-use Rattle.convolution.specs.Sums.{convolved, convolution, placeOf}
+use Rattle.convolution.specs.Sums.{convolved, convolution}
 use Rattle.convolution.specs.Tested.{Convolving, convolving, copying, pads}
 use Rattle.numbers.specs.Tests.{kept, key-above}
 use denote.Enum.Declared.{declared, tagOf}
@@ -26,7 +26,7 @@ use lib.IntN.{ℤ}
 use lib.ListN.{length, take}
 use mathlib.Core.Path.{_∙_, _≡_, ap, sym, subst}
 use native.Mathlib.Omega.{arith}
-use Rattle.convolution.specs.Pads.{centreOf, leftPad, needed, rightPad, Kernel}
+use Rattle.convolution.specs.Pads.{centreOf, leftPad, needed, rightPad}
 use Rattle.convolution.specs.Places.{back, wide, within}
 use Rattle.convolution.specs.Turns.{copied, of-samples}
 use borrow.Author.Tests.{eq-eqb, ne-eqb}
@@ -35,6 +35,7 @@ use Rattle.border.specs.Rule.{padded}
 use Rattle.numbers.specs.Words.{plusZero, tab, written}
 use lib.Ieee.{Float, binary64}
 use mathlib.Core.List.{List}
+use Rattle.convolution.specs.Works.{Kernel, placeOf}
 
 -- an answer other than the first is a refusal
 refusal : (r : Convolution) → 0 < tagOf (declared enum) r → 0 < numberOf r

@@ -7,11 +7,12 @@ use Rattle.convolution.proofs.size.Tie as tie
 use Rattle.convolution.proofs.size.Reads as reads
 use Rattle.convolution.proofs.size.Lts as lts
 use Prim.Native.Nat.{_≤_}
-use Rattle.convolution.specs.Pads.{Small, centreOf}
+use Rattle.convolution.specs.Pads.{centreOf}
 use lib.IntN.{natAbs}
 use mathlib.Core.Path.{_∙_, ap, subst, sym}
 use native.Mathlib.Numerals.{add-one}
 use native.Mathlib.Omega.{arith}
+use Rattle.convolution.specs.Works.{Small}
 
 enum-known-centre : tie.Need-enum-known-centre
 enum-known-centre c = search needs

@@ -9,7 +9,7 @@ use Rattle.convolution.proofs.pads.beyond.Reads as beyond-reads
 use Rattle.convolution.proofs.pads.from_filter.Reads as from-filter-reads
 use Rattle.convolution.proofs.pads.split.Reads as split-reads
 use Prim.Native.Nat.{_≤_}
-use Rattle.convolution.specs.Pads.{ShortPads, beyond, centreOf}
+use Rattle.convolution.specs.Pads.{beyond, centreOf}
 use Rattle.convolution.specs.Places.{nears, within, back}
 use Rattle.convolution.specs.Sizes.{ScratchSized, sizeOf}
 use Rattle.convolution.specs.Tested.{kernel-of}
@@ -18,6 +18,7 @@ use borrow.Author.Tests.{eq-eqb, ne-eqb}
 use lib.IntN.{natAbs}
 use mathlib.Core.Path.{_∙_, _≡_, ap, sym}
 use native.Mathlib.Omega.{arith}
+use Rattle.convolution.specs.Works.{ShortPads}
 
 -- what is told by the centre's sign is told by the centre
 told : (c : tie.After-split) {r : Scratch} → let a = c .before .args in r ≡ sizeOf (a .n) (a .f) (centreOf (c .split .result)) → ScratchSized (a .n) (a .f) (a .centre) r

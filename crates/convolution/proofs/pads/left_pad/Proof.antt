@@ -7,10 +7,11 @@ use Rattle.convolution.proofs.pads.left_pad.Reads as reads
 use Rattle.convolution.proofs.pads.left_pad.Lts as lts
 use Rattle.numbers.proofs.less.Reads as less-reads
 use Prim.Native.Nat.{ℕ}
-use Rattle.convolution.specs.Pads.{Kernel, centreOf, leftPad}
+use Rattle.convolution.specs.Pads.{centreOf, leftPad}
 use Rattle.convolution.specs.Places.{left-at, left-before}
 use mathlib.Core.Path.{_∙_, _≡_, ap, subst, sym}
 use native.Mathlib.Omega.{arith}
+use Rattle.convolution.specs.Works.{Kernel}
 
 -- a centre by its name
 named : {f : ℕ} {p q : Place} → Kernel f (centreOf p) → p ≡ q → Kernel f (centreOf q)

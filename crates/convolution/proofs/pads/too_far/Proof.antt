@@ -6,7 +6,7 @@ use Rattle.convolution.proofs.pads.too_far.Tie as tie
 use Rattle.convolution.proofs.pads.too_far.Reads as reads
 use Rattle.convolution.proofs.pads.too_far.Lts as lts
 use Rattle.convolution.proofs.pads.over.Reads as over-reads
-use Rattle.convolution.specs.Pads.{placed101}
+use Rattle.convolution.specs.Pads.{tooFar}
 use mathlib.Core.Path.{_∙_, ap, sym}
 
 enum-told : tie.Need-enum-told
@@ -41,7 +41,7 @@ returns-4 c = search needs
 
 returns-5 : tie.Need-returns-5
 returns-5 c = let s = c .before .before .before in
-    c .over .ensures ∙ ap (λ (b : Border). placed101 b (s .args .n) (s .args .left) (s .args .right)) (sym (c .before .enum-told5 .given .1))
+    c .over .ensures ∙ ap (λ (b : Border). tooFar b (s .args .n) (s .args .left) (s .args .right)) (sym (c .before .enum-told5 .given .1))
 
 pub too-far-spec : {M : Type 1} → statement M
 too-far-spec =

@@ -7,7 +7,6 @@ use Rattle.convolution.proofs.work.fours.Lts as lts
 use Rattle.convolution.proofs.work.four_at.Reads as four-at-reads
 use Prim.Native.Nat.{_-_, _≤_}
 use Rattle.border.specs.Rule.{padded}
-use Rattle.convolution.specs.Sums.{placeOf}
 use Rattle.numbers.specs.Words.{written}
 use Rattle.numbers.specs.Write.{written-start}
 use lib.Ieee.{binary64}
@@ -16,6 +15,7 @@ use mathlib.Core.Path.{_≡_}
 use Rattle.convolution.specs.Turns.{written-four}
 use denote.Ref.{now}
 use native.Mathlib.Omega.{arith}
+use Rattle.convolution.specs.Works.{placeOf}
 
 abbrev Inv-loop : tie.InvT-loop
 Inv-loop kernel padded out₀ n x₀ out x =

@@ -6,12 +6,12 @@ use Rattle.convolution.proofs.work.one_at.Reads as reads
 use Rattle.convolution.proofs.work.one_at.Lts as lts
 use Prim.Native.Nat.{_-_, _<_, _≤_}
 use Rattle.border.specs.Rule.{padded}
-use Rattle.convolution.specs.Sums.{kernelSum}
 use Rattle.convolution.specs.Turns.{sum-start, sum-end, sum-step}
 use denote.Ref.{now}
 use lib.Ieee.{binary64}
 use lib.ListN.{length}
 use mathlib.Core.Path.{_≡_, refl}
+use Rattle.convolution.specs.Works.{kernelSum}
 
 abbrev Inv-loop : tie.InvT-loop
 Inv-loop kernel padded x k₀ i₀ k i = (0 < i) × (i ≤ length kernel) × (k ≡ kernelSum binary64 kernel padded x (i - 1))

@@ -7,7 +7,6 @@ use Rattle.convolution.proofs.work.rest.Lts as lts
 use Rattle.convolution.proofs.work.one_at.Reads as one-at-reads
 use Prim.Native.Nat.{_+_, _-_, _≤_, ℕ}
 use Rattle.border.specs.Rule.{padded}
-use Rattle.convolution.specs.Sums.{placeOf}
 use Rattle.numbers.specs.Words.{placed}
 use lib.Ieee.{binary64, Float}
 use lib.ListN.{length, length-set}
@@ -15,6 +14,7 @@ use mathlib.Core.Path.{_≡_, _∙_, ap, sym}
 use Rattle.numbers.specs.Write.{placed-end, placed-start, placed-turn}
 use denote.Ref.{now}
 use native.Mathlib.Omega.{arith}
+use Rattle.convolution.specs.Works.{placeOf}
 
 abbrev Inv-loop : tie.InvT-loop
 Inv-loop kernel padded out₀ from x₀ out x =

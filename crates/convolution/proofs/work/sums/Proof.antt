@@ -7,11 +7,11 @@ use Rattle.convolution.proofs.work.sums.Lts as lts
 use Rattle.convolution.proofs.work.fours.Reads as fours-reads
 use Rattle.convolution.proofs.work.rest.Reads as rest-reads
 use Rattle.border.specs.Rule.{padded}
-use Rattle.convolution.specs.Sums.{placeOf}
 use Rattle.convolution.specs.Turns.{written-rest}
 use denote.Ref.{now}
 use lib.Ieee.{binary64, nan}
 use mathlib.Core.Path.{_∙_}
+use Rattle.convolution.specs.Works.{placeOf}
 
 fours-requires : tie.Need-fours-requires
 fours-requires c κs = search needs
