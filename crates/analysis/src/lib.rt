@@ -7,6 +7,7 @@ use crate::work::bands;
 use bank::Bank;
 use bank::sizes::bad_taps;
 use border::pad::pad;
+use numbers::LONGEST;
 
 pub enum Analysis {
     Done,
@@ -24,7 +25,7 @@ pub fn analysis_answer(f: usize, n: usize, approx: usize, detail: usize, scratch
     if bad_taps(f) {
         return Analysis::Taps;
     }
-    if 1048576 < n {
+    if LONGEST < n {
         return Analysis::Limit;
     }
     if n < f {

@@ -5,7 +5,6 @@ ghost use lib.ListN.{length};
 ghost use lib.Ieee.{binary64, add, mul};
 ghost use Rattle.numbers.specs.Words.{tab};
 ghost use Rattle.analysis.specs.Works.{tapSum, bandOf, Placeable, Bandable};
-ghost use Rattle.border.specs.Rule.{padded};
 
 // Both sums of a place travel through the taps as one pair.
 pub struct Pair {

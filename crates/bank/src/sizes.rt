@@ -2,6 +2,7 @@
 ghost use mathlib.Core.Path.{_≡_};
 ghost use Rattle.bank.specs.Lengths.{badTaps};
 ghost use Rattle.bank.specs.Sizes.{BandSized, LineSized, ScratchSized};
+use numbers::LONGEST;
 
 pub enum Size {
     Length(usize),
@@ -31,7 +32,7 @@ pub fn band_length(n: usize, f: usize) -> Size
     if bad_taps(f) {
         return Size::Taps;
     }
-    if 1048576 < n {
+    if LONGEST < n {
         return Size::Limit;
     }
     if n < f {
@@ -47,7 +48,7 @@ pub fn line_length(m: usize, f: usize) -> Size
     if bad_taps(f) {
         return Size::Taps;
     }
-    if 1048576 < m {
+    if LONGEST < m {
         return Size::Limit;
     }
     if 2 * m + 2 <= f {

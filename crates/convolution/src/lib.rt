@@ -4,9 +4,8 @@ pub mod work;
 
 ghost use mathlib.Core.Path.{_≡_};
 ghost use lib.IntN.{natAbs};
-ghost use Rattle.convolution.specs.Pads.{centreOf, beyond};
+ghost use Rattle.convolution.specs.Pads.{centreOf};
 ghost use Rattle.convolution.specs.Convolutions.{answerOf, Convolved};
-ghost use Rattle.convolution.specs.Tested.{pads};
 ghost use Rattle.convolution.specs.Works.{Small};
 use crate::pads::beyond;
 use crate::pads::from_filter;

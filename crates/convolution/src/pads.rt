@@ -6,6 +6,7 @@ ghost use Rattle.convolution.specs.Sizes.{ScratchSized};
 ghost use Rattle.convolution.specs.Works.{Kernel, ShortPads};
 use border::Border;
 use border::rule::Place;
+use numbers::LONGEST;
 use numbers::less;
 
 pub struct Pads {
@@ -34,7 +35,7 @@ pub fn split(centre: i64) -> Place
 pub fn beyond(n: usize, f: usize, centre: Place) -> bool
     ensures { λ r. ⌜ r ≡ beyond n f (centreOf centre) ⌝ }
 {
-    if 1048576 < n {
+    if LONGEST < n {
         return true;
     }
     if 64 < f {

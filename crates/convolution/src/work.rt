@@ -5,7 +5,6 @@ ghost use lib.ListN.{length};
 ghost use lib.Ieee.{binary64};
 ghost use Rattle.numbers.specs.Words.{tab, written, replaced};
 ghost use Rattle.convolution.specs.Works.{Summable, Summing, Fours, placeOf};
-ghost use Rattle.border.specs.Rule.{padded};
 
 // Four sums that travel through the taps together.
 pub struct Four {

@@ -6,6 +6,7 @@ ghost use Rattle.synthesis.specs.Syntheses.{answerOf, Synthesised};
 use crate::work::join;
 use bank::Bank;
 use bank::sizes::bad_taps;
+use numbers::LONGEST;
 
 pub enum Synthesis {
     Done,
@@ -23,10 +24,10 @@ pub fn synthesis_answer(f: usize, approx: usize, detail: usize, out: usize) -> S
     if bad_taps(f) {
         return Synthesis::Taps;
     }
-    if 1048576 < approx {
+    if LONGEST < approx {
         return Synthesis::Limit;
     }
-    if 1048576 < detail {
+    if LONGEST < detail {
         return Synthesis::Limit;
     }
     if approx != detail {
