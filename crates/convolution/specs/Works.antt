@@ -37,12 +37,13 @@ kernelSum f kernel line x i = convolved f (at kernel) (λ j. at line (x + j)) i
 abbrev pub placeOf : Format → List Float → List Float → ℕ → Float
 placeOf f kernel line x = kernelSum f kernel line x (length kernel - 1)
 
--- a kernel of f over `count` places from x on of a padded line
-pub record Summable (f padded x count : ℕ) : Type 0 where
-  pub some : 0 < f
-  pub within : x + count + f ≤ padded + 1
+-- a kernel, with its first tap, over `count` places from x on of a padded line
+pub record Summable (kernel : List Float) (tap : Float) (padded x count : ℕ) : Type 0 where
+  pub some : 0 < length kernel
+  pub first : tap ≡ at kernel 0
+  pub within : x + count + length kernel ≤ padded + 1
 
--- over as many places as the output has
+-- a kernel of f over as many places as the output has
 pub record Summing (f padded out : ℕ) : Type 0 where
   pub some : 0 < f
   pub within : out + f ≤ padded + 1

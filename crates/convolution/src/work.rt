@@ -14,12 +14,12 @@ pub struct Four {
     pub d: f64,
 }
 
-// Place x: the first product starts the sum.
-fn one_at(kernel: &[f64], padded: &[f64], x: usize) -> f64
-    requires { ⌜ Summable (length (now kernel)) (length (now padded)) x 1 ⌝ }
+// Place x: the product of the first tap starts the sum.
+fn one_at(kernel: &[f64], first: f64, padded: &[f64], x: usize) -> f64
+    requires { ⌜ Summable (now kernel) first (length (now padded)) x 1 ⌝ }
     ensures { λ r. ⌜ r ≡ placeOf binary64 (now (kernel .entry)) (now (padded .entry)) x ⌝ }
 {
-    let mut k = padded[x] * kernel[0];
+    let mut k = padded[x] * first;
     let mut i = 1usize;
     while i < kernel.len() {
         k = k + padded[x + i] * kernel[i];
@@ -29,11 +29,10 @@ fn one_at(kernel: &[f64], padded: &[f64], x: usize) -> f64
 }
 
 // The four places from x on.
-fn four_at(kernel: &[f64], padded: &[f64], x: usize) -> Four
-    requires { ⌜ Summable (length (now kernel)) (length (now padded)) x 4 ⌝ }
+fn four_at(kernel: &[f64], first: f64, padded: &[f64], x: usize) -> Four
+    requires { ⌜ Summable (now kernel) first (length (now padded)) x 4 ⌝ }
     ensures { λ r. ⌜ Fours (now (kernel .entry)) (now (padded .entry)) x (length (now (kernel .entry)) - 1) (r .a) (r .b) (r .c) (r .d) ⌝ }
 {
-    let first = kernel[0];
     let mut a = padded[x] * first;
     let mut b = padded[x + 1] * first;
     let mut c = padded[x + 2] * first;
@@ -42,9 +41,9 @@ fn four_at(kernel: &[f64], padded: &[f64], x: usize) -> Four
     while i < kernel.len() {
         let tap = kernel[i];
         a = a + padded[x + i] * tap;
-        b = b + padded[x + 1 + i] * tap;
-        c = c + padded[x + 2 + i] * tap;
-        d = d + padded[x + 3 + i] * tap;
+        b = b + padded[x + i + 1] * tap;
+        c = c + padded[x + i + 2] * tap;
+        d = d + padded[x + i + 3] * tap;
         i += 1;
     }
     Four { a, b, c, d }
@@ -55,10 +54,11 @@ fn fours(kernel: &[f64], padded: &[f64], out: &mut [f64]) -> usize
     requires { ⌜ Summing (length (now kernel)) (length (now padded)) (length (now out)) ⌝ }
     ensures { λ r. ⌜ (r ≤ length (now (out .entry))) × (now (out .exit) ≡ written (placeOf binary64 (now (kernel .entry)) (now (padded .entry))) r (now (out .entry))) ⌝ }
 {
+    let first = kernel[0];
     let n = out.len();
     let mut x = 0usize;
     while x + 3 < n {
-        let s = four_at(kernel, padded, x);
+        let s = four_at(kernel, first, padded, x);
         out[x] = s.a;
         out[x + 1] = s.b;
         out[x + 2] = s.c;
@@ -73,9 +73,10 @@ fn rest(kernel: &[f64], padded: &[f64], out: &mut [f64], from: usize)
     requires { ⌜ Summing (length (now kernel)) (length (now padded)) (length (now out)) × (from ≤ length (now out)) ⌝ }
     ensures { λ _. ⌜ now (out .exit) ≡ replaced (placeOf binary64 (now (kernel .entry)) (now (padded .entry))) from (length (now (out .entry)) - from) (now (out .entry)) ⌝ }
 {
+    let first = kernel[0];
     let mut x = from;
     while x < out.len() {
-        out[x] = one_at(kernel, padded, x);
+        out[x] = one_at(kernel, first, padded, x);
         x += 1;
     }
 }

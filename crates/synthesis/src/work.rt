@@ -75,10 +75,16 @@ fn inner(
         let lo = 2 * i - offset;
         let hi = 2 * i + 2;
         spread(low, high, 0, approx[i], detail[i], &mut out[lo..hi]);
-        let next = i + 1;
-        let lo2 = 2 * next - offset;
-        let hi2 = 2 * next + 2;
-        spread(low, high, 0, approx[next], detail[next], &mut out[lo2..hi2]);
+        let lo2 = lo + 2;
+        let hi2 = hi + 2;
+        spread(
+            low,
+            high,
+            0,
+            approx[i + 1],
+            detail[i + 1],
+            &mut out[lo2..hi2],
+        );
         i += 2;
     }
     i

@@ -4,24 +4,23 @@ use Rattle.convolution.proofs.work.four_at.Statement.{statement}
 use Rattle.convolution.proofs.work.four_at.Tie as tie
 use Rattle.convolution.proofs.work.four_at.Reads as reads
 use Rattle.convolution.proofs.work.four_at.Lts as lts
-use Prim.Native.Nat.{_-_, _<_, _≤_, _+_}
+use Prim.Native.Nat.{_+_, _-_, _<_, _≤_, ℕ}
 use Rattle.border.specs.Rule.{padded}
+use Rattle.convolution.specs.Turns.{sum-end, sum-start, sum-step}
 use Rattle.convolution.specs.Works.{Fours}
-use lib.ListN.{length}
-use Rattle.convolution.specs.Turns.{sum-start, sum-step, sum-end}
+use Rattle.numbers.specs.Words.{at}
 use denote.Ref.{now}
-use lib.Ieee.{binary64}
-use mathlib.Core.Path.{refl}
+use lib.Ieee.{Float, add, binary64, mul}
+use lib.ListN.{length}
+use mathlib.Core.Path.{_≡_, ap, refl}
+use native.Mathlib.Omega.{arith}
 
 abbrev Inv-loop : tie.InvT-loop
-Inv-loop kernel padded x first a₀ b₀ c₀ d₀ i₀ a b c d i =
+Inv-loop kernel first padded x a₀ b₀ c₀ d₀ i₀ a b c d i =
     (0 < i) × (i ≤ length kernel) × Fours kernel padded x (i - 1) a b c d
 
 abbrev μ-loop : tie.MeasureT-loop
-μ-loop kernel padded x first a₀ b₀ c₀ d₀ i₀ a b c d i = length kernel - i
-
-shared-slice-read-first : tie.Need-shared-slice-read-first Inv-loop μ-loop
-shared-slice-read-first c = search needs
+μ-loop kernel first padded x a₀ b₀ c₀ d₀ i₀ a b c d i = length kernel - i
 
 mul-a : tie.Need-mul-a Inv-loop μ-loop
 mul-a c = search needs
@@ -57,14 +56,14 @@ shared-slice-read-d : tie.Need-shared-slice-read-d Inv-loop μ-loop
 shared-slice-read-d c = search needs
 
 loop-holds : tie.Need-loop-holds Inv-loop μ-loop
-loop-holds c = let a = c .before .before .before .before .before .args in let k = now (a .kernel) in let l = now (a .padded) in (
+loop-holds c = let s = c .before .before .before .before in let a = s .args in let k = now (a .kernel) in let l = now (a .padded) in (
   search needs,
   search needs,
   record {
-    first = sum-start binary64 k l (a .x) refl;
-    second = sum-start binary64 k l (a .x + 1) refl;
-    third = sum-start binary64 k l (a .x + 2) refl;
-    fourth = sum-start binary64 k l (a .x + 3) refl;
+    first = sum-start binary64 k l (a .x) (ap (mul binary64 (at l (a .x))) (s .pre .first));
+    second = sum-start binary64 k l (a .x + 1) (ap (mul binary64 (at l (a .x + 1))) (s .pre .first));
+    third = sum-start binary64 k l (a .x + 2) (ap (mul binary64 (at l (a .x + 2))) (s .pre .first));
+    fourth = sum-start binary64 k l (a .x + 3) (ap (mul binary64 (at l (a .x + 3))) (s .pre .first));
   },
 )
 
@@ -126,20 +125,24 @@ loop-less : tie.Need-loop-less Inv-loop μ-loop
 loop-less c = search needs
 
 loop-again : tie.Need-loop-again Inv-loop μ-loop
-loop-again c = let l = c .before .before .before .before .before .before in let a = l .before .before .before .before .before .before .args in
-    let f = l .loop .inv .2 in let k = now (a .kernel) in let s = now (a .padded) in let i = l .loop .i in let h = l .loop .inv .0 in (
+loop-again c = let l = c .before .before .before .before .before .before in let a = l .before .before .before .before .before .args in
+    let f = l .loop .inv .2 in let k = now (a .kernel) in let s = now (a .padded) in let i = l .loop .i in let h = l .loop .inv .0 in
+    let one : a .x + i + 1 ≡ a .x + 1 + i = omega arith in
+    let two : a .x + i + 2 ≡ a .x + 2 + i = omega arith in
+    let three : a .x + i + 3 ≡ a .x + 3 + i = omega arith in
+    let term : Float → ℕ → Float = λ sum p. add binary64 sum (mul binary64 (at s p) (at k i)) in (
       search needs,
       search needs,
       record {
         first = sum-step binary64 k s (a .x) i h (f .first) refl;
-        second = sum-step binary64 k s (a .x + 1) i h (f .second) refl;
-        third = sum-step binary64 k s (a .x + 2) i h (f .third) refl;
-        fourth = sum-step binary64 k s (a .x + 3) i h (f .fourth) refl;
+        second = sum-step binary64 k s (a .x + 1) i h (f .second) (ap (term (l .loop .b)) one);
+        third = sum-step binary64 k s (a .x + 2) i h (f .third) (ap (term (l .loop .c)) two);
+        fourth = sum-step binary64 k s (a .x + 3) i h (f .fourth) (ap (term (l .loop .d)) three);
       },
     )
 
 returns : tie.Need-returns Inv-loop μ-loop
-returns c = let l = c .before in let a = l .before .before .before .before .before .before .args in
+returns c = let l = c .before in let a = l .before .before .before .before .before .args in
     let f = l .loop .inv .2 in let k = now (a .kernel) in let s = now (a .padded) in let i = l .loop .i in record {
       first = sum-end binary64 k s (a .x) i (f .first) (search needs) (search needs);
       second = sum-end binary64 k s (a .x + 1) i (f .second) (search needs) (search needs);
@@ -153,7 +156,6 @@ four-at-spec =
     (tie.spec
     Inv-loop
     μ-loop
-    shared-slice-read-first
     mul-a
     shared-slice-read-a
     add-b

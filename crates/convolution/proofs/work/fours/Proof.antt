@@ -7,22 +7,26 @@ use Rattle.convolution.proofs.work.fours.Lts as lts
 use Rattle.convolution.proofs.work.four_at.Reads as four-at-reads
 use Prim.Native.Nat.{_-_, _≤_}
 use Rattle.border.specs.Rule.{padded}
+use Rattle.convolution.specs.Places.{within}
+use Rattle.convolution.specs.Turns.{written-four}
+use Rattle.convolution.specs.Works.{placeOf}
 use Rattle.numbers.specs.Words.{written}
 use Rattle.numbers.specs.Write.{written-start}
+use denote.Ref.{now}
 use lib.Ieee.{binary64}
 use lib.ListN.{length, length-set}
-use mathlib.Core.Path.{_≡_}
-use Rattle.convolution.specs.Turns.{written-four}
-use denote.Ref.{now}
+use mathlib.Core.Path.{_≡_, refl}
 use native.Mathlib.Omega.{arith}
-use Rattle.convolution.specs.Works.{placeOf}
 
 abbrev Inv-loop : tie.InvT-loop
-Inv-loop kernel padded out₀ n x₀ out x =
+Inv-loop kernel padded out₀ first n x₀ out x =
     (x ≤ length out₀) × (length out ≡ length out₀) × (out ≡ written (placeOf binary64 kernel padded) x out₀)
 
 abbrev μ-loop : tie.MeasureT-loop
-μ-loop kernel padded out₀ n x₀ out x = length out₀ - x
+μ-loop kernel padded out₀ first n x₀ out x = length out₀ - x
+
+shared-slice-read-first : tie.Need-shared-slice-read-first Inv-loop μ-loop
+shared-slice-read-first c = search needs
 
 loop-holds : tie.Need-loop-holds Inv-loop μ-loop
 loop-holds c = (search needs, search needs, written-start _ _)
@@ -31,7 +35,7 @@ add-loop : tie.Need-add-loop Inv-loop μ-loop
 add-loop c = search needs
 
 four-at-requires : tie.Need-four-at-requires Inv-loop μ-loop
-four-at-requires c κs = search needs
+four-at-requires c κs = record { some = search needs; first = refl; within = search needs }
 
 mul-out : tie.Need-mul-out Inv-loop μ-loop
 mul-out c = search needs
@@ -73,7 +77,7 @@ loop-less : tie.Need-loop-less Inv-loop μ-loop
 loop-less c = search needs
 
 loop-again : tie.Need-loop-again Inv-loop μ-loop
-loop-again c = let l = c .before .before in let a = l .before .before .before .before .args in let f = c .four-at .ensures in (
+loop-again c = let l = c .before .before in let a = l .before .before .before .before .before .args in let f = c .four-at .ensures in (
   omega arith,
   simp length-set (l .loop .inv .1),
   written-four (placeOf binary64 (now (a .kernel)) (now (a .padded))) (l .loop .x) (now (a .out)) (omega arith) (l .loop .inv .2) (f .first) (f .second) (f .third) (f .fourth),
@@ -91,6 +95,7 @@ fours-spec =
     (tie.spec
     Inv-loop
     μ-loop
+    shared-slice-read-first
     loop-holds
     add-loop
     four-at-requires

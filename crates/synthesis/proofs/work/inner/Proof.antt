@@ -5,18 +5,18 @@ use Rattle.synthesis.proofs.work.inner.Tie as tie
 use Rattle.synthesis.proofs.work.inner.Reads as reads
 use Rattle.synthesis.proofs.work.inner.Lts as lts
 use Rattle.synthesis.proofs.work.spread.Reads as spread-reads
-use Prim.Native.Nat.{_+_, _-_, _<_, _≤_, ℕ, _*_}
-use Rattle.synthesis.specs.Joins.{Joining, joining-none, joining-all, joining-next, joining-at}
+use Prim.Native.Nat.{_*_, _+_, _-_, _<_, _≤_, ℕ}
 use Rattle.numbers.specs.Tests.{kept}
-use lib.Ieee.{binary64, Float}
-use native.Mathlib.Omega.{arith}
-use Rattle.synthesis.specs.Works.{spreadAt}
 use Rattle.numbers.specs.Words.{at, tab}
+use Rattle.synthesis.specs.Joins.{Joining, joining-all, joining-at, joining-next, joining-none}
+use Rattle.synthesis.specs.Works.{spreadAt}
 use borrow.Rule.Slice.PartMut.{mid-len, putMid}
 use denote.Ref.{now}
+use lib.Ieee.{Float, binary64}
 use lib.ListN.{drop, length, take}
 use mathlib.Core.List.{List}
 use mathlib.Core.Path.{_∙_, _≡_, ap, refl}
+use native.Mathlib.Omega.{arith}
 
 abbrev Inv-loop : tie.InvT-loop
 Inv-loop low high f approx detail out₀ first end offset i₀ out i =
@@ -28,22 +28,20 @@ abbrev μ-loop : tie.MeasureT-loop
 falls : (i n : ℕ) → i + 1 < n → n - (i + 2) < n - i
 falls i n h = omega arith
 
--- one more pair, whose part lies within the output whole
-pair : (s : tie.Start Inv-loop μ-loop) → let a = s .args in (new ys : List Float) (i : ℕ) → a .first ≤ i → i < a .end
+-- one more pair, onto the places from lo to hi, which lie within the output
+pair : (s : tie.Start Inv-loop μ-loop) → let a = s .args in (new ys : List Float) (i lo hi : ℕ) → lo ≡ 2 * i - (a .f - 2) → hi ≡ 2 * i + 2 → a .first ≤ i → i < a .end
     → Joining binary64 (a .f) (now (a .low)) (now (a .high)) (now (a .approx)) (now (a .detail)) (a .first) (now (a .out)) new i
-    → let part = take (2 * i + 2 - (2 * i - (a .f - 2))) (drop (2 * i - (a .f - 2)) new) in
-    ys ≡ tab (spreadAt binary64 (now (a .low)) (now (a .high)) 0 (at (now (a .approx)) i) (at (now (a .detail)) i) part) (length part)
-    → Joining binary64 (a .f) (now (a .low)) (now (a .high)) (now (a .approx)) (now (a .detail)) (a .first) (now (a .out)) (putMid (2 * i - (a .f - 2)) (2 * i + 2 - (2 * i - (a .f - 2))) new ys) (i + 1)
-pair s new ys i h k j e = let a = s .args in let p = s .pre in
-    let lo = 2 * i - (a .f - 2) in
-    let hi = 2 * i + 2 in
+    → ys ≡ tab (spreadAt binary64 (now (a .low)) (now (a .high)) 0 (at (now (a .approx)) i) (at (now (a .detail)) i) (take (hi - lo) (drop lo new))) (length (take (hi - lo) (drop lo new)))
+    → Joining binary64 (a .f) (now (a .low)) (now (a .high)) (now (a .approx)) (now (a .detail)) (a .first) (now (a .out)) (putMid lo (hi - lo) new ys) (i + 1)
+pair s new ys i lo hi el eh h k j e = let a = s .args in let p = s .pre in
     let q : length (take (hi - lo) (drop lo new)) ≡ hi - lo = mid-len lo hi new (omega (arith, j .kept, p .behind (omega arith))) in
     joining-next binary64 (a .f) (now (a .low)) (now (a .high)) (now (a .approx)) (now (a .detail)) (a .first) (now (a .out)) new ys i (length (now (a .approx)))
-    lo hi 0 (p .some .all .two) h (omega (arith, p .some .last)) (p .some .all .ruled) refl (omega (arith, p .before)) (omega (arith, p .behind (omega arith))) (e ∙ ap (tab _) q) j
+    lo hi 0 (p .some .all .two) h (omega (arith, p .some .last)) (p .some .all .ruled) el (omega (arith, p .before)) (omega (arith, p .behind (omega arith))) (e ∙ ap (tab _) q) j
 
 half : (c : tie.After-spread Inv-loop μ-loop) → let l = c .before .before .before .before .before in let a = l .before .before .before .before .args in
     Joining binary64 (a .f) (now (a .low)) (now (a .high)) (now (a .approx)) (now (a .detail)) (a .first) (now (a .out)) (putMid (2 * l .loop .i - (a .f - 2)) (2 * l .loop .i + 2 - (2 * l .loop .i - (a .f - 2))) (l .loop .out) (c .spread .last .1 .1 .1 .1 .1 .0)) (l .loop .i + 1)
-half c = let l = c .before .before .before .before .before in pair (l .before .before .before .before) (l .loop .out) _ (l .loop .i) (l .loop .inv .0) (omega arith) (l .loop .inv .2) (c .spread .ensures)
+half c = let l = c .before .before .before .before .before in
+    pair (l .before .before .before .before) (l .loop .out) _ (l .loop .i) _ _ refl refl (l .loop .inv .0) (omega arith) (l .loop .inv .2) (c .spread .ensures)
 
 sub-offset : tie.Need-sub-offset Inv-loop μ-loop
 sub-offset c = search needs
@@ -93,26 +91,23 @@ part-spread-end c = let l = c .before .before .before in omega (arith, l .loop .
 spread-requires : tie.Need-spread-requires Inv-loop μ-loop
 spread-requires c κs = search needs
 
-add-next : tie.Need-add-next Inv-loop μ-loop
-add-next c = search needs
-
-mul-lo2 : tie.Need-mul-lo2 Inv-loop μ-loop
-mul-lo2 c = search needs
-
-sub-lo2 : tie.Need-sub-lo2 Inv-loop μ-loop
-sub-lo2 c = search needs
-
-mul-hi2 : tie.Need-mul-hi2 Inv-loop μ-loop
-mul-hi2 c = search needs
+add-lo2 : tie.Need-add-lo2 Inv-loop μ-loop
+add-lo2 c = search needs
 
 add-hi2 : tie.Need-add-hi2 Inv-loop μ-loop
 add-hi2 c = search needs
+
+add-spread : tie.Need-add-spread Inv-loop μ-loop
+add-spread c = search needs
 
 mul-spread-4 : tie.Need-mul-spread-4 Inv-loop μ-loop
 mul-spread-4 c = search needs
 
 shared-slice-read-spread-3 : tie.Need-shared-slice-read-spread-3 Inv-loop μ-loop
 shared-slice-read-spread-3 c = search needs
+
+add-spread-2 : tie.Need-add-spread-2 Inv-loop μ-loop
+add-spread-2 c = search needs
 
 mul-spread-5 : tie.Need-mul-spread-5 Inv-loop μ-loop
 mul-spread-5 c = search needs
@@ -142,10 +137,11 @@ loop-less : tie.Need-loop-less Inv-loop μ-loop
 loop-less c = let l = c .before .before .before .before .before .before .before .before .before .before .before .before .before in falls (l .loop .i) (l .before .before .before .before .args .end) (c .before .before .before .before .before .before .before .before .before .before .before .before .loop-test .taken)
 
 loop-again : tie.Need-loop-again Inv-loop μ-loop
-loop-again c = let d = c .before .before in let s = d .before .before .before .before .before .before in let l = s .before .before .before .before .before in let a = l .before .before .before .before .args in (
+loop-again c = let d = c .before .before in let s = d .before .before .before .before .before .before in let l = s .before .before .before .before .before in let a = l .before .before .before .before .args in let i = l .loop .i in (
   omega arith,
   omega arith,
-  joining-at binary64 (a .f) (now (a .low)) (now (a .high)) (now (a .approx)) (now (a .detail)) (omega arith) (pair (l .before .before .before .before) _ _ (l .loop .i + 1) (omega arith) (omega arith) (half s) (d .spread2 .ensures)),
+  joining-at binary64 (a .f) (now (a .low)) (now (a .high)) (now (a .approx)) (now (a .detail)) (omega arith)
+      (pair (l .before .before .before .before) _ _ (i + 1) (2 * i - (a .f - 2) + 2) (2 * i + 2 + 2) (omega (arith, l .before .before .before .before .pre .before)) (omega arith) (omega arith) (omega arith) (half s) (d .spread2 .ensures)),
 )
 
 same-length : tie.Need-same-length Inv-loop μ-loop
@@ -177,13 +173,12 @@ inner-spec =
     part-spread-start
     part-spread-end
     spread-requires
-    add-next
-    mul-lo2
-    sub-lo2
-    mul-hi2
+    add-lo2
     add-hi2
+    add-spread
     mul-spread-4
     shared-slice-read-spread-3
+    add-spread-2
     mul-spread-5
     shared-slice-read-spread-4
     mul-spread-6
