@@ -3,8 +3,8 @@ use mathlib.Core.Path.{_≡_, refl, sym, ap, subst, _∙_}
 use mathlib.Core.Bool.{Bool, true, false, cond}
 use mathlib.Core.List.{List}
 use mathlib.Core.Logic.{_≢_}
-use Prim.Native.Nat.{ℕ, _+_, _-_, _*_, _%_, _≤_, _<_}
-use native.Mathlib.Nat.{mod-lt}
+use Prim.Native.Nat.{ℕ, _+_, _-_, _*_, _/_, _%_, _≤_, _<_}
+use native.Mathlib.Nat.{mod-lt, div-add-mod'}
 use native.Mathlib.Omega.{arith}
 use borrow.Author.Tests.{lt-ltb, le-ltb, eq-eqb, ne-eqb, ltb-true, ltb-false, eqb-true, eqb-false}
 use lib.Dec.{ltb, eqb}
@@ -27,6 +27,13 @@ mod-low k n h = mod-lt k h
 pub modulo-low : (p : Place) (n : ℕ) → 0 < n → modulo p n < n
 modulo-low (Before k) n h = omega (arith, mod-low k n h)
 modulo-low (At i) n h = mod-low i n h
+
+-- the remainder differs from its place, -(k + 1) or i, by a multiple of n
+pub modulo-before : (k n : ℕ) → 0 < n → modulo (Before k) n + (k + 1) ≡ k / n * n + n
+modulo-before k n h = omega (arith, div-add-mod' k n, mod-low k n h)
+
+pub modulo-at : (i n : ℕ) → i ≡ i / n * n + modulo (At i) n
+modulo-at i n = sym (div-add-mod' i n)
 
 pub source-before : (b : Border) (p : Place) (k n : ℕ) → p ≡ Before k → source b p n ≡ outside b (Before k) n
 unfolding source
