@@ -1,19 +1,15 @@
-"""expected_tried: prints what the program `tried` has to write, from document 01's rules and numbers alone.
+"""expected_tried PROGRAM: prints what `tried`, `tried_sums` or `tried_refusals` has to write, from document 01's rules and numbers alone.
 
-    python3 tools/expected_tried.py | diff - crates/tried/stdout
+    python3 tools/expected_tried.py tried | diff - crates/tried/stdout
 
 It shares nothing with the library: its own border rule, its own sums in floats that round each product and each sum."""
 import struct, sys
 INF, NAN = float('inf'), float('nan')
 LIMIT = 1048576
-out_lines = []
-cases = 0
+texts, program = {}, 'tried'
 
-def say(s): out_lines.append(s)
-def head(s):
-    global cases
-    cases += 1
-    say(s)
+def say(s): texts.setdefault(program, []).append(s)
+def head(s): say(s)
 def hexed(x): return 'NaN' if x != x else struct.pack('>d', float(x)).hex().upper()
 def answer(a): say('answer ' + ' '.join(str(v) for v in a))
 def buf(label, s): say(' '.join([label] + [hexed(x) for x in s]))
@@ -266,6 +262,7 @@ synthesised('four pairs, four taps, onto sevens', q, [1.0, 2.0, 3.0, 4.0], [4.0,
 synthesised('32 pairs, 64 taps, all 1', Bank(ones, mirror(ones), 'Zeros'), [1.0] * 32, [0.0] * 32, [0.0] * 2)
 
 # --- convolutions
+program = 'tried_sums'
 k3 = [1.0, 10.0, 100.0]
 def three_taps(name, border, c): return convolved(name, border, [1.0, 2.0, 3.0, 4.0], sevens(4), sevens(8), k3, c)
 assert three_taps('P9: centre 0', 'Zeros', 0)[1] == [210, 321, 432, 43]
@@ -324,6 +321,7 @@ five('zeros with kernel -1 1', [0.0, -0.0, 0.0, -0.0, -0.0], [-1.0, 1.0])
 five('kernel 0 NaN', [1.0, 2.0, 3.0, 4.0, 5.0], [0.0, NAN])
 
 # --- refusals
+program = 'tried_refusals'
 def lent(name, want, bank, n, a, d, s):
     r, a2, d2, s2 = analysed(name, bank, [1.0] * n, sevens(a), sevens(d), sevens(s))
     assert r == want and set(a2 + d2 + s2) <= {7.0}, (name, r)
@@ -391,5 +389,4 @@ told('1048577 samples, no output', (11,), convolution_answer('Wrap', 1048577, 0,
 told('1048576 samples, empty kernel', (0,), convolution_answer('Wrap', 1048576, 1048576, 0, 0, 0))
 told('1048576 samples, scratch short', (5, 1048577, 1048576), convolution_answer('Wrap', 1048576, 1048576, 1, 0, 1048576))
 
-sys.stdout.write('\n'.join(out_lines) + '\n')
-sys.stderr.write('%d cases, %d lines\n' % (cases, len(out_lines)))
+sys.stdout.write('\n'.join(texts[sys.argv[1]]) + '\n')

@@ -1,7 +1,7 @@
 // Analyses: examples, every border, and as many taps as samples.
-use crate::calls::analysed;
 use bank::making::bank;
 use border::Border;
+use trying::calls::analysed;
 
 fn two(name: &[u8], line: &[f64]) {
     let low = [1.0, 1.0];

@@ -1,17 +1,17 @@
 // Lines split and joined again: into a cleared output, then onto what that output holds.
-use crate::answers::of_analysis;
-use crate::answers::of_synthesis;
-use crate::calls::analysed;
-use crate::calls::synthesised;
-use crate::print::ends;
-use crate::print::heading;
-use crate::print::others;
 use analysis::analyse;
 use bank::Bank;
 use bank::making::bank;
 use bank::making::mirrored;
 use border::Border;
 use synthesis::synthesise;
+use trying::answers::of_analysis;
+use trying::answers::of_synthesis;
+use trying::calls::analysed;
+use trying::calls::synthesised;
+use trying::print::ends;
+use trying::print::heading;
+use trying::print::others;
 
 fn back(
     name: &[u8],

@@ -1,14 +1,14 @@
 // Making a bank, given both lists or by the mirror rule.
 ghost use Prim.Native.Nat.{_≤_};
-use crate::answers::of_making;
-use crate::print::floats;
-use crate::print::heading;
-use crate::print::number;
-use crate::print::text;
 use bank::making::Made;
 use bank::making::bank;
 use bank::making::mirrored;
 use border::Border;
+use trying::answers::of_making;
+use trying::print::floats;
+use trying::print::heading;
+use trying::print::number;
+use trying::print::text;
 
 fn taps(low: &[f64; 64], high: &[f64; 64], from: usize, end: usize)
     requires { ⌜ (from ≤ end) × (end ≤ 64) ⌝ }

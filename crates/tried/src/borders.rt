@@ -2,10 +2,10 @@
 ghost use Prim.Native.Nat.{_+_, _≤_};
 ghost use lib.ListN.{length};
 ghost use Rattle.border.specs.Reach.{Paddable};
-use crate::print::floats;
-use crate::print::heading;
 use border::Border;
 use border::pad::pad;
+use trying::print::floats;
+use trying::print::heading;
 
 fn padded(name: &[u8], border: Border, line: &[f64], left: usize, right: usize, s: &mut [f64])
     requires { ⌜ Paddable border (length (now line)) left right × (left + length (now line) + right ≤ length (now s)) ⌝ }

@@ -1,13 +1,13 @@
 // The sizes to lend: examples, refusals and ends of the domain.
-use crate::answers::of_scratch;
-use crate::answers::of_size;
-use crate::print::heading;
-use crate::print::number;
-use crate::print::text;
 use bank::sizes::analysis_scratch;
 use bank::sizes::band_length;
 use bank::sizes::line_length;
 use convolution::pads::convolution_scratch;
+use trying::answers::of_scratch;
+use trying::answers::of_size;
+use trying::print::heading;
+use trying::print::number;
+use trying::print::text;
 
 fn asked(entry: &[u8], n: usize, f: usize) {
     text(entry);

@@ -1,18 +1,9 @@
-// Runs the entries on document 01's examples and at the ends of its domain, and prints what they answer.
+// Runs the sizes, banks, borders, analysis and synthesis on document 01's examples and at the ends of its domain.
 mod analyses;
-mod answers;
 mod back;
 mod banks;
 mod borders;
-mod calls;
-mod kernels;
 mod lengths;
-mod print;
-mod refused_analyses;
-mod refused_kernels;
-mod refused_syntheses;
-mod rounding;
-mod specials;
 mod syntheses;
 
 fn sizes() {
@@ -46,49 +37,9 @@ fn lines() {
     syntheses::longest();
 }
 
-fn convolutions() {
-    kernels::examples();
-    kernels::centres();
-    kernels::one_samples();
-    kernels::long_pads();
-    kernels::lengths();
-    kernels::empty();
-    kernels::longest();
-}
-
-fn sums() {
-    rounding::analysis_order();
-    rounding::analysis_products();
-    rounding::synthesis_order();
-    rounding::pairs_order();
-    rounding::convolution_order();
-    rounding::convolution_products();
-    specials::analyses();
-    specials::one_nan();
-    specials::synthesis_nan();
-    specials::syntheses();
-    specials::convolutions();
-}
-
-fn refusals() {
-    refused_analyses::taps();
-    refused_analyses::sizes();
-    refused_analyses::limits();
-    refused_syntheses::refused();
-    refused_syntheses::limits();
-    refused_kernels::limits();
-    refused_kernels::lengths();
-    refused_kernels::centres();
-    refused_kernels::reach();
-    refused_kernels::long();
-}
-
 fn main() {
     sizes();
     makings();
     pads();
     lines();
-    convolutions();
-    sums();
-    refusals();
 }

@@ -1,8 +1,8 @@
 // Syntheses onto outputs that hold something, and the shortest outputs.
-use crate::calls::synthesised;
 use bank::making::bank;
 use bank::making::mirrored;
 use border::Border;
+use trying::calls::synthesised;
 
 pub fn two_taps() {
     let low = [1.0, 1.0];

@@ -1,12 +1,12 @@
 // Refused analyses: where several tests fail the first answers, and the sevens stay.
 ghost use Prim.Native.Nat.{_≤_};
-use crate::answers::of_analysis;
-use crate::calls::analysed;
-use crate::print::heading;
 use analysis::analysis_answer;
 use bank::Bank;
 use bank::making::bank;
 use border::Border;
+use trying::answers::of_analysis;
+use trying::calls::analysed;
+use trying::print::heading;
 
 // A line, bands and scratch of the lengths told.
 fn lent(name: &[u8], bank: Bank, n: usize, a: usize, d: usize, s: usize)

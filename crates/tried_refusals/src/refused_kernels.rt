@@ -1,11 +1,11 @@
 // Refused convolutions: where several tests fail the first answers, and the sevens stay.
 ghost use Prim.Native.Nat.{_≤_};
-use crate::answers::of_convolution;
-use crate::calls::convolved;
-use crate::print::heading;
 use border::Border;
 use border::rule::Place;
 use convolution::convolution_answer;
+use trying::answers::of_convolution;
+use trying::calls::convolved;
+use trying::print::heading;
 
 // A line, output, scratch and kernel of the lengths told.
 fn lent(name: &[u8], border: Border, n: usize, o: usize, s: usize, f: usize, centre: i64)

@@ -6,8 +6,8 @@ use lib.Dec.{T}
 use lib.ListN.{length, length-set}
 use lib.Ieee.{Float, nan, inf, fin, ne, isNan}
 use borrow.Author.Needs.{needs}
-use Rattle.tried.proofs.print.bits.Statement.{statement}
-use Rattle.tried.proofs.print.bits.Tie as tie
+use Rattle.trying.proofs.print.bits.Statement.{statement}
+use Rattle.trying.proofs.print.bits.Tie as tie
 
 self : (x : Float) → ne x x ≡ false → T (not (isNan x))
 unfolding ne isNan

@@ -4,8 +4,8 @@ use Prim.Native.Nat.{_≤_, _-_}
 use native.Mathlib.Omega.{arith}
 use lib.ListN.{length}
 use borrow.Author.Needs.{needs}
-use Rattle.tried.proofs.print.others.Statement.{statement}
-use Rattle.tried.proofs.print.others.Tie as tie
+use Rattle.trying.proofs.print.others.Statement.{statement}
+use Rattle.trying.proofs.print.others.Tie as tie
 
 abbrev Inv-loop : tie.InvT-loop
 Inv-loop label s x k₀ i₀ t6 k i = (i ≤ length s) × (k ≤ i)

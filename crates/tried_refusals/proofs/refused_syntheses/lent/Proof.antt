@@ -3,8 +3,8 @@ use mathlib.Core.Path.{sym}
 use native.Mathlib.Omega.{arith}
 use lib.Seq.{length-take-le}
 use borrow.Author.Needs.{needs}
-use Rattle.tried.proofs.refused_syntheses.lent.Statement.{statement}
-use Rattle.tried.proofs.refused_syntheses.lent.Tie as tie
+use Rattle.tried_refusals.proofs.refused_syntheses.lent.Statement.{statement}
+use Rattle.tried_refusals.proofs.refused_syntheses.lent.Tie as tie
 
 array-share-prefix-approx : tie.Need-array-share-prefix-approx
 array-share-prefix-approx c = search needs

@@ -3,8 +3,8 @@ use mathlib.Core.Path.{sym}
 use native.Mathlib.Omega.{arith}
 use lib.Seq.{length-take-le}
 use borrow.Author.Needs.{needs}
-use Rattle.tried.proofs.refused_kernels.lent.Statement.{statement}
-use Rattle.tried.proofs.refused_kernels.lent.Tie as tie
+use Rattle.tried_refusals.proofs.refused_kernels.lent.Statement.{statement}
+use Rattle.tried_refusals.proofs.refused_kernels.lent.Tie as tie
 
 array-share-prefix-line : tie.Need-array-share-prefix-line
 array-share-prefix-line c = search needs

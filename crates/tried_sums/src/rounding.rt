@@ -1,9 +1,9 @@
 // Sums in which the order of the terms shows, and whether a product is rounded by itself.
-use crate::calls::analysed;
-use crate::calls::convolved;
-use crate::calls::synthesised;
 use bank::making::bank;
 use border::Border;
+use trying::calls::analysed;
+use trying::calls::convolved;
+use trying::calls::synthesised;
 
 pub fn analysis_order() {
     let line = [9007199254740992.0, 1.0, -9007199254740992.0, 0.0];

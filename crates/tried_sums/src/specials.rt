@@ -1,9 +1,9 @@
 // Negative zero, infinities and NaN, in samples, taps and outputs.
-use crate::calls::analysed;
-use crate::calls::convolved;
-use crate::calls::synthesised;
 use bank::making::bank;
 use border::Border;
+use trying::calls::analysed;
+use trying::calls::convolved;
+use trying::calls::synthesised;
 
 // Six samples by two taps.
 fn six(name: &[u8], line: &[f64], low: &[f64], high: &[f64]) {

@@ -1,11 +1,11 @@
 // Convolutions: examples, every border, centres, pads longer than the line, and the empty kernel.
-use crate::answers::of_convolution;
-use crate::calls::convolved;
-use crate::print::ends;
-use crate::print::heading;
-use crate::print::others;
 use border::Border;
 use convolution::convolve;
+use trying::answers::of_convolution;
+use trying::calls::convolved;
+use trying::print::ends;
+use trying::print::heading;
+use trying::print::others;
 
 // The line 1 2 3 4 with the kernel 1 10 100.
 fn three_taps(name: &[u8], border: Border, centre: i64) {

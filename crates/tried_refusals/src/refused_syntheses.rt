@@ -1,11 +1,11 @@
 // Refused syntheses: where several tests fail the first answers, and the sevens stay.
 ghost use Prim.Native.Nat.{_≤_};
-use crate::answers::of_synthesis;
-use crate::calls::synthesised;
-use crate::print::heading;
 use bank::Bank;
 use border::Border;
 use synthesis::synthesis_answer;
+use trying::answers::of_synthesis;
+use trying::calls::synthesised;
+use trying::print::heading;
 
 // Bands and an output of the lengths told, and a count of taps that nothing has tested.
 fn lent(name: &[u8], taps: usize, a: usize, d: usize, o: usize)

@@ -2,8 +2,8 @@
 use Prim.Native.Nat.{_≤_, _-_}
 use lib.ListN.{length}
 use borrow.Author.Needs.{needs}
-use Rattle.tried.proofs.print.floats.Statement.{statement}
-use Rattle.tried.proofs.print.floats.Tie as tie
+use Rattle.trying.proofs.print.floats.Statement.{statement}
+use Rattle.trying.proofs.print.floats.Tie as tie
 
 abbrev Inv-loop : tie.InvT-loop
 Inv-loop label s i₀ t4 i = i ≤ length s
