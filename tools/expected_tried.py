@@ -221,6 +221,12 @@ pad('Wrap, none and five', 'Wrap', ten, 0, 5, 18)
 pad('Reflect, five and none', 'Reflect', ten, 5, 0, 18)
 BORDERS = ('Clamp', 'Wrap', 'Reflect', 'Zeros', 'Reflect101')
 for b in BORDERS: pad('one sample -0, ' + b, b, [-0.0], 3, 2, 7)
+def within(name, border, held, start, n, to, left, right):
+    head(name)
+    p = padded(border, held[start:start + n], left, right)
+    buf('padded', held[:to] + p + held[to + len(p):])
+within('Wrap within one buffer, the line in front', 'Wrap', ten + sevens(10), 0, 3, 4, 2, 3)
+within('Reflect within one buffer, the line behind', 'Reflect', sevens(7) + ten + sevens(1), 7, 3, 0, 2, 1)
 
 # --- analyses
 sumdiff = Bank([1.0, 1.0], [1.0, -1.0], 'Wrap')

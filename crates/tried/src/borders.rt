@@ -4,6 +4,7 @@ ghost use lib.ListN.{length};
 ghost use Rattle.border.specs.Reach.{Paddable};
 use border::Border;
 use border::pad::pad;
+use border::pad::pad_within;
 use trying::print::floats;
 use trying::print::heading;
 
@@ -52,4 +53,33 @@ pub fn ends() {
     one(b"one sample -0, Reflect", Border::Reflect);
     one(b"one sample -0, Zeros", Border::Zeros);
     one(b"one sample -0, Reflect101", Border::Reflect101);
+}
+
+// The line lies in the buffer that takes it padded: in front of that, and behind it.
+pub fn in_front() {
+    let mut s = [
+        10.0,
+        20.0,
+        30.0,
+        7.0,
+        7.0,
+        7.0,
+        7.0,
+        7.0,
+        7.0,
+        7.0,
+        7.0,
+        7.0,
+        7.0,
+    ];
+    heading(b"Wrap within one buffer, the line in front");
+    pad_within(Border::Wrap, &mut s, 0, 3, 4, 2, 3);
+    floats(b"padded", &s);
+}
+
+pub fn behind() {
+    let mut s = [7.0, 7.0, 7.0, 7.0, 7.0, 7.0, 7.0, 10.0, 20.0, 30.0, 7.0];
+    heading(b"Reflect within one buffer, the line behind");
+    pad_within(Border::Reflect, &mut s, 7, 3, 0, 2, 1);
+    floats(b"padded", &s);
 }

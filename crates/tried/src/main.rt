@@ -24,6 +24,8 @@ fn pads() {
     borders::examples();
     borders::long();
     borders::ends();
+    borders::in_front();
+    borders::behind();
 }
 
 fn lines() {

@@ -1,4 +1,4 @@
-// Nothing but the worked examples of specs/, computed.
+// The worked examples stand in specs/, computed; a crate has a function, so this one does nothing.
 pub fn nothing(x: u32) -> u32 {
     x
 }

@@ -1,0 +1,49 @@
+-- What `pad_within` asks: Reflect reaches as far as one likes, and the line lies behind its padded form.
+use mathlib.Core.Logic.{inl}
+use native.Mathlib.Omega.{arith}
+use Rattle.tried.proofs.Reached.{reflect}
+use borrow.Author.Needs.{needs}
+use Rattle.tried.proofs.borders.behind.Statement.{statement}
+use Rattle.tried.proofs.borders.behind.Tie as tie
+use Rattle.tried.proofs.borders.behind.Reads as reads
+use Rattle.tried.proofs.borders.behind.Lts as lts
+use Rattle.border.proofs.pad.pad_within.Reads as pad-within-reads
+use Rattle.trying.proofs.print.floats.Reads as floats-reads
+use Rattle.trying.proofs.print.heading.Reads as heading-reads
+
+slice-aggregate-heading : tie.Need-slice-aggregate-heading
+slice-aggregate-heading c = search needs
+
+heading-requires : tie.Need-heading-requires
+heading-requires c κs = search needs
+
+slice-aggregate-pad-within : tie.Need-slice-aggregate-pad-within
+slice-aggregate-pad-within c = search needs
+
+pad-within-requires : tie.Need-pad-within-requires
+pad-within-requires c κs = record { pads = reflect _ _; line = omega arith; room = omega arith; apart = inl (omega arith) }
+
+slice-aggregate-floats : tie.Need-slice-aggregate-floats
+slice-aggregate-floats c = search needs
+
+slice-aggregate-floats-2 : tie.Need-slice-aggregate-floats-2
+slice-aggregate-floats-2 c = search needs
+
+floats-requires : tie.Need-floats-requires
+floats-requires c κs = search needs
+
+returns : tie.Need-returns
+returns c = search needs
+
+pub behind-spec : {M : Type 1} → statement M
+behind-spec =
+    tie.close
+    (tie.spec
+    slice-aggregate-heading
+    heading-requires
+    slice-aggregate-pad-within
+    pad-within-requires
+    slice-aggregate-floats
+    slice-aggregate-floats-2
+    floats-requires
+    returns)
