@@ -5,7 +5,6 @@ use Prim.Native.Nat.{ℕ, _+_, _*_, _≤_}
 use lib.Ieee.{Float, Format}
 use Rattle.numbers.specs.Words.{at}
 use Rattle.analysis.specs.Sums.{dot}
-use Rattle.border.specs.Rule.{padded}
 
 -- the sum of k taps over a line that holds the padded samples, from a place of it on
 unfoldable pub tapSum : Format → List Float → List Float → ℕ → ℕ → Float

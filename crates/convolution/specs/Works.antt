@@ -9,7 +9,6 @@ use Rattle.border.specs.declared.rule.Place.{Place}
 use Rattle.numbers.specs.Words.{at}
 use Rattle.convolution.specs.Pads.{centreOf}
 use Rattle.convolution.specs.Sums.{convolved}
-use Rattle.border.specs.Rule.{padded}
 
 -- a kernel that is not empty, and a centre within its limit
 pub record Kernel (f : ℕ) (c : ℤ) : Type 0 where
