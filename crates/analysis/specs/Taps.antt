@@ -30,13 +30,23 @@ sum-step f taps line from j {sum} e h =
 pub sum-end : (f : Format) (taps line : List Float) (from j n : ℕ) {sum : Float} → sum ≡ tapSum f taps line from j → j ≤ n → n ≤ j → sum ≡ tapSum f taps line from n
 sum-end f taps line from j n e h k = let q : j ≡ n = omega arith in rw (← q) e
 
--- lines that agree under the taps have one sum
-dot-same : (f : Format) (tap x y : ℕ → Float) (n : ℕ) → ((j : ℕ) → j < n → x j ≡ y j) → dot f tap x n ≡ dot f tap y n
+-- taps and lines that agree at every place in use have one sum
+dot-same : (f : Format) (tap tap′ x y : ℕ → Float) (n : ℕ) → ((j : ℕ) → j < n → tap j ≡ tap′ j) → ((j : ℕ) → j < n → x j ≡ y j)
+    → dot f tap x n ≡ dot f tap′ y n
 unfolding dot
-dot-same f tap x y zero h = refl
-dot-same f tap x y (suc n) h =
-    ap (λ (v : Float). add f v (mul f (tap n) (x n))) (dot-same f tap x y n (λ j l. h j (omega arith)))
-    ∙ ap (λ (v : Float). add f (dot f tap y n) (mul f (tap n) v)) (h n (omega arith))
+dot-same f tap tap′ x y zero g h = refl
+dot-same f tap tap′ x y (suc n) g h =
+    ap (λ (v : Float). add f v (mul f (tap n) (x n))) (dot-same f tap tap′ x y n (λ j l. g j (omega arith)) (λ j l. h j (omega arith)))
+    ∙ ap (λ (t : Float). add f (dot f tap′ y n) (mul f t (x n))) (g n (omega arith))
+    ∙ ap (λ (v : Float). add f (dot f tap′ y n) (mul f (tap′ n) v)) (h n (omega arith))
+
+-- a band reads no tap but the first F
+pub band-same : (f : Format) (taps taps′ : List Float) (F : ℕ) (b : Border) (s : List Float) → ((j : ℕ) → j < F → at taps j ≡ at taps′ j)
+    → band f taps F b s ≡ band f taps′ F b s
+unfolding band analysed
+band-same f taps taps′ F b s g =
+    tab-same (analysed f F (at taps) (paddedAt F b s)) (analysed f F (at taps′) (paddedAt F b s)) (pairs (length s) F)
+    (λ i l. dot-same f (at taps) (at taps′) (λ j. paddedAt F b s (2 * i + j)) (λ j. paddedAt F b s (2 * i + j)) F g (λ j k. refl))
 
 -- the bands of the padded line at the front of the scratch are the bands of the samples
 pub of-samples : (f : Format) (b : Border) (taps s line scratch : List Float) (F N : ℕ)
@@ -45,6 +55,6 @@ pub of-samples : (f : Format) (b : Border) (taps s line scratch : List Float) (F
 unfolding band tapSum analysed
 of-samples f b taps s line scratch F N e h =
     tab-same (bandOf f taps F line) (analysed f F (at taps) (paddedAt F b s)) (pairs (length s) F)
-    (λ i l. dot-same f (at taps) (λ j. at line (2 * i + j)) (λ j. paddedAt F b s (2 * i + j)) F
+    (λ i l. dot-same f (at taps) (at taps) (λ j. at line (2 * i + j)) (λ j. paddedAt F b s (2 * i + j)) F (λ j k. refl)
     (λ j k. ap (λ (y : List Float). at y (2 * i + j)) (e ∙ take-written (paddedAt F b s) N scratch)
     ∙ getD-tab (paddedAt F b s) N (2 * i + j) nan (omega arith)))

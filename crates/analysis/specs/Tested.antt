@@ -1,5 +1,6 @@
 -- Laws of the tests: where an answer is done every test passed, which gives the work what it asks for.
-use mathlib.Core.Path.{_≡_, refl}
+use mathlib.Core.Path.{_≡_, refl, sym}
+use Rattle.analysis.specs.declared.Analysis.{Analysis}
 use Rattle.analysis.specs.declared.Analysis.the-variants.{Done}
 use Rattle.analysis.specs.Analyses.{answerOf, numberOf}
 use Prim.Native.Nat.{_≤_, ℕ, _*_, _+_, _-_}
@@ -7,7 +8,7 @@ use Rattle.numbers.specs.Tests.{passed}
 use Rattle.numbers.specs.Words.{longest}
 use borrow.Author.Tests.{eqb-true, ltb-false, not-false}
 use lib.Dec.{eqb, ltb, lit<}
-use mathlib.Core.Bool.{not}
+use mathlib.Core.Bool.{false, not}
 use native.Mathlib.Omega.{arith}
 use Rattle.border.specs.declared.Border.{Border}
 use Rattle.border.specs.Reach.{Paddable}
@@ -35,6 +36,11 @@ analysing f n a d s e =
       detailed = eqb-true d (pairs n f) (not-false _ (p5 .0));
       room = ltb-false s (paddedLength n f) (p6 .0);
     }
+
+-- what is done has taps
+pub tapped : (f n a d s : ℕ) {r : Analysis} → r ≡ answerOf f n a d s → numberOf r ≡ 0 → badTaps f ≡ false
+unfolding answerOf
+tapped f n a d s e z = passed numberOf (badTaps f) (sym e) (lit< tt) z .0
 
 -- the pads of a line whose bands have m places: they may be asked for, and with the line they fill the padded length
 pub pads : (b : Border) (n f m : ℕ) → Analysable n f → m ≡ pairs n f → Paddable b n (f - 2) (2 * m + (f - 2) - n - (f - 2))

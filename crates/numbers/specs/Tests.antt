@@ -1,6 +1,6 @@
 -- Laws of tests in a row: which of them passed is read off the answer; and the code's 0.0 is +0.
-use mathlib.Core.Path.{_≡_, refl, sym, ap}
-use mathlib.Core.Bool.{Bool, true, false, true≢false, cond, _||_}
+use mathlib.Core.Path.{_≡_, refl, sym, ap, _∙_}
+use mathlib.Core.Bool.{Bool, true, false, true≢false, cond, _||_, _&&_}
 use lib.Ieee.{Format, binary32, binary64, ofBits}
 use Rattle.numbers.specs.Words.{plusZero, whenDone}
 use Prim.Native.Nat.{_<_, suc, zero, ℕ}
@@ -17,6 +17,11 @@ pub neither : (s t : Bool) → (s || t) ≡ false → (s ≡ false) × (t ≡ fa
 neither true t e = absurd (true≢false e)
 neither false t e = (refl, e)
 
+-- both of two tests passed
+pub both : (s t : Bool) → (s && t) ≡ true → (s ≡ true) × (t ≡ true)
+both true t e = (refl, e)
+both false t e = absurd (true≢false (sym e))
+
 pub literal-zero : (f : Format) → ofBits f 0 ≡ plusZero
 unfolding ofBits
 literal-zero binary32 = refl
@@ -30,6 +35,11 @@ cond-true false a b e = absurd (true≢false (sym e))
 pub cond-false : {A : Type 0} (t : Bool) (a b : A) → t ≡ false → cond t a b ≡ b
 cond-false t a b e = rw e
 
+-- two choices by one test, alike wherever they are taken
+pub cond-same : {A : Type 0} (t : Bool) {a a′ b b′ : A} → (t ≡ true → a ≡ a′) → b ≡ b′ → cond t a b ≡ cond t a′ b′
+cond-same true h k = h refl
+cond-same false h k = k
+
 -- one of the keys k, k + 1 and so on, `more` of them behind the first: what the other arms of a match know of its key
 abbrev pub Keys : ℕ → ℕ → ℕ → Type 0
 Keys zero k n = n ≡ k
@@ -38,6 +48,15 @@ Keys (suc more) k n = (n ≡ k) ⊎ Keys more (suc k) n
 pub key-above : (more k n : ℕ) → 0 < k → Keys more k n → 0 < n
 key-above zero k n h e = omega arith
 key-above (suc more) k n h e = ⊎-elim (λ q. omega arith) (λ q. key-above more (suc k) n (omega arith) q) e
+
+-- a lent thing by another name of the number, its new value another wherever that is written
+pub done-as : {A : Type 0} {number r : ℕ} {x : A} (new new′ old : A) → r ≡ number → x ≡ whenDone number new old → (number ≡ 0 → new ≡ new′)
+    → x ≡ whenDone r new′ old
+done-as {A} {number} {r} {x} new new′ old e q h = q ∙ alike number h ∙ ap (λ (k : ℕ). whenDone k new′ old) (sym e)
+  where
+    alike : (number : ℕ) → (number ≡ 0 → new ≡ new′) → whenDone number new old ≡ whenDone number new′ old
+    alike zero h = h refl
+    alike (suc number) h = refl
 
 -- on a refusal a lent thing is as it was
 pub kept : {A : Type 0} (number : ℕ) → 0 < number → (new old : A) → old ≡ whenDone number new old

@@ -1,0 +1,6 @@
+// The library for C: numbers and slices in, document 01's number back, and what an answer carries in lent words.
+pub mod borders;
+pub mod lines;
+pub mod sizes;
+pub mod taps;
+pub mod told;

@@ -1,0 +1,67 @@
+// One line, for C. Taps that make no bank leave it without taps, which the entries refuse by 12.
+ghost use Rattle.isferghul.specs.Lines.{AnalysisTold, SynthesisTold, ConvolutionTold};
+use crate::borders::border_of;
+use crate::borders::no_border;
+use crate::told;
+use analysis::analyse;
+use bank::making::bank;
+use border::Border;
+use convolution::convolve;
+use synthesis::synthesise;
+
+#[no_mangle]
+pub extern "C" fn isferghul_analyse(
+    border: usize,
+    low: &[f64],
+    high: &[f64],
+    line: &[f64],
+    approx: &mut [f64],
+    detail: &mut [f64],
+    scratch: &mut [f64],
+    carried: &mut [usize; 2],
+) -> u64
+    ensures { λ r. ⌜ AnalysisTold border (now (low .entry)) (now (high .entry)) (now (line .entry)) (now (approx .entry)) (now (detail .entry)) (now (scratch .entry)) (now (carried .entry))
+        r (now (approx .exit)) (now (detail .exit)) (now (scratch .exit)) (now (carried .exit)) ⌝ }
+{
+    if no_border(border) {
+        return told::one(26, border, carried);
+    }
+    let made = bank(low, high, border_of(border));
+    told::analysis(analyse(made.bank, line, approx, detail, scratch), carried)
+}
+
+// No border: synthesis reads none.
+#[no_mangle]
+pub extern "C" fn isferghul_synthesise(
+    low: &[f64],
+    high: &[f64],
+    approx: &[f64],
+    detail: &[f64],
+    out: &mut [f64],
+    carried: &mut [usize; 2],
+) -> u64
+    ensures { λ r. ⌜ SynthesisTold (now (low .entry)) (now (high .entry)) (now (approx .entry)) (now (detail .entry)) (now (out .entry)) (now (carried .entry)) r (now (out .exit)) (now (carried .exit)) ⌝ }
+{
+    let made = bank(low, high, Border::Clamp);
+    told::synthesis(synthesise(made.bank, approx, detail, out), carried)
+}
+
+#[no_mangle]
+pub extern "C" fn isferghul_convolve(
+    border: usize,
+    line: &[f64],
+    out: &mut [f64],
+    scratch: &mut [f64],
+    kernel: &[f64],
+    centre: i64,
+    carried: &mut [usize; 2],
+) -> u64
+    ensures { λ r. ⌜ ConvolutionTold border (now (line .entry)) (now (out .entry)) (now (scratch .entry)) (now (kernel .entry)) centre (now (carried .entry))
+        r (now (out .exit)) (now (scratch .exit)) (now (carried .exit)) ⌝ }
+{
+    if no_border(border) {
+        return told::one(26, border, carried);
+    }
+    let answer = convolve(border_of(border), line, out, scratch, kernel, centre);
+    told::convolution(answer, carried)
+}

@@ -1,0 +1,70 @@
+/* Isferghul: a wavelet filter bank for lines of 64-bit floats. Link with libisferghul.a (x86-64).
+ *
+ * Every function answers for every input and always returns. It gives a number back: 0 is done, any other is a refusal:
+ *
+ *    1  fewer samples than taps (carries samples, taps)       7  nothing to work on
+ *    2  a band's length is wrong (its length)                 8  the centre lies outside the kernel (its size, taps)
+ *    3  the bands' lengths differ (both)                     11  past a limit: 1,048,576 numbers, 64 kernel taps, a 32-bit centre
+ *    4  the output's length is wrong (have, need)            12  tap lists odd, empty, over 64 or unequal
+ *    5  the scratch is too short (need, have)                13  a Reflect101 pad over n - 2, with n above 1
+ *    6  line and output differ in length (both)              26  no border has this number (the number)
+ *
+ * What an answer carries goes to carried[0] and carried[1]; words that carry nothing stay as they were. On a refusal nothing else that was lent changes.
+ *
+ * A list is a pointer and how many numbers it has. No pointer is null, not even beside 0; buffers that are written overlap with no other.
+ * Each product is rounded, then each sum; no two are fused.
+ */
+#ifndef ISFERGHUL_H
+#define ISFERGHUL_H
+
+#include <stddef.h>
+#include <stdint.h>
+
+#ifdef __cplusplus
+extern "C" {
+#endif
+
+/* What stands left and right of a line. */
+enum isferghul_border {
+    ISFERGHUL_CLAMP = 0,
+    ISFERGHUL_WRAP = 1,
+    ISFERGHUL_REFLECT = 2,
+    ISFERGHUL_ZEROS = 3,
+    ISFERGHUL_REFLECT101 = 4
+};
+
+/* How long each band of n samples by f taps is: carried[0] on 0. Refuses by 12, 11, 1. */
+uint64_t isferghul_band_length(size_t n, size_t f, size_t carried[2]);
+
+/* How many places m pairs by f taps give: carried[0] on 0. Refuses by 12, 11, 7. */
+uint64_t isferghul_line_length(size_t m, size_t f, size_t carried[2]);
+
+/* How much scratch analysis of n samples by f taps needs: carried[0] on 0. Refuses by 12, 11, 1. */
+uint64_t isferghul_analysis_scratch(size_t n, size_t f, size_t carried[2]);
+
+/* How much scratch convolution of n samples with f taps about a centre needs: carried[0] on 0. Refuses by 11, 7. */
+uint64_t isferghul_convolution_scratch(size_t n, size_t f, int64_t centre, size_t carried[2]);
+
+/* The high taps that the mirror rule makes of the low ones: high tap j is low tap f-1-j, its sign turned at odd j. Refuses by 12. */
+uint64_t isferghul_mirror(const double *low, size_t lows, double *high, size_t highs);
+
+/* Both bands of a line. The scratch then begins with the padded line and is as it was beyond it. Refuses by 26, 12, 11, 1, 2, 2, 5. */
+uint64_t isferghul_analyse(size_t border, const double *low, size_t lows, const double *high, size_t highs,
+                           const double *line, size_t samples, double *approx, size_t approxes, double *detail, size_t details,
+                           double *scratch, size_t scratches, size_t carried[2]);
+
+/* Both bands joined onto what the output holds: clear it first to have the line alone. Refuses by 12, 11, 3, 7, 4. */
+uint64_t isferghul_synthesise(const double *low, size_t lows, const double *high, size_t highs,
+                              const double *approx, size_t approxes, const double *detail, size_t details,
+                              double *out, size_t outs, size_t carried[2]);
+
+/* A line with a kernel about its centre; an empty kernel copies and leaves the scratch alone. Else the scratch then begins
+   with the padded line and is as it was beyond it. Refuses by 26, 11, 6, 7, 5, 8, 13. */
+uint64_t isferghul_convolve(size_t border, const double *line, size_t samples, double *out, size_t outs, double *scratch, size_t scratches,
+                            const double *kernel, size_t taps, int64_t centre, size_t carried[2]);
+
+#ifdef __cplusplus
+}
+#endif
+
+#endif
