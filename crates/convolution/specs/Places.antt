@@ -89,8 +89,11 @@ pub flip : (z : ℤ) → ltZ z (pos 0) ≡ true → negsuc 0 -ℤ z ≡ pos (mag
 flip (pos k) e = absurd (omega (arith, ltb-true k 0 e))
 flip (negsuc k) e = simp (le-ltb (suc k) 1 (omega arith)) (ap pos (omega arith))
 
-pub flip-fits : (z : ℤ) → SFits w64 z → ltZ z (pos 0) ≡ true → SFits w64 (negsuc 0 -ℤ z)
-flip-fits z f e = rw (flip z e) (record { sfits = f .sfits })
+-- and of any z, it fits where z does
+pub flip-fits : (z : ℤ) → SFits w64 z → SFits w64 (negsuc 0 -ℤ z)
+flip-fits (pos zero) f = record { sfits = f .sfits }
+flip-fits (pos (suc k)) f = record { sfits = omega (arith, f .sfits) }
+flip-fits (negsuc k) f = rw (flip (negsuc k) refl) (record { sfits = f .sfits })
 
 -- a signed number as the machine reads it back is the number
 pub back : (z : ℤ) → SFits w64 z → toZ w64 (ofZ w64 z) ≡ z
@@ -101,7 +104,7 @@ pub flipped : (z : ℤ) → SFits w64 z → ltZ (toZ w64 (ofZ w64 z)) (pos 0) �
 flipped z f e =
     let q = back z f in
     let e′ : ltZ z (pos 0) ≡ true = rw q at e in
-    rw q (toZ-ofZ w64 (negsuc 0 -ℤ z) (flip-fits z f e′) ∙ flip z e′)
+    rw q (toZ-ofZ w64 (negsuc 0 -ℤ z) (flip-fits z f) ∙ flip z e′)
 
 pub negative : (z : ℤ) → ltZ z (pos 0) ≡ true → negsuc (mag z) ≡ z
 negative (pos k) e = absurd (omega (arith, ltb-true k 0 e))

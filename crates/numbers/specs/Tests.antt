@@ -1,7 +1,8 @@
--- Laws of tests in a row: which of them passed is read off the answer; and the code's 0.0 is +0.
-use mathlib.Core.Path.{_≡_, refl, sym, ap, _∙_}
-use mathlib.Core.Bool.{Bool, true, false, true≢false, cond, _||_, _&&_}
-use lib.Ieee.{Format, binary32, binary64, ofBits}
+-- Laws of tests in a row: which of them passed is read off the answer; of floats, the code's 0.0 is +0, and what equals itself is no NaN.
+use mathlib.Core.Path.{_≡_, refl, sym, ap, _∙_, subst}
+use mathlib.Core.Bool.{Bool, true, false, true≢false, cond, not, _||_, _&&_}
+use lib.Dec.{T}
+use lib.Ieee.{Float, nan, inf, fin, Format, binary32, binary64, ofBits, ne, isNan}
 use Rattle.numbers.specs.Words.{plusZero, whenDone}
 use Prim.Native.Nat.{_<_, suc, zero, ℕ}
 use mathlib.Core.Logic.{_⊎_, ⊎-elim}
@@ -26,6 +27,12 @@ pub literal-zero : (f : Format) → ofBits f 0 ≡ plusZero
 unfolding ofBits
 literal-zero binary32 = refl
 literal-zero binary64 = refl
+
+pub no-nan : (x : Float) → ne x x ≡ false → T (not (isNan x))
+unfolding ne isNan
+no-nan nan e = absurd (subst T e tt)
+no-nan (inf s) e = tt
+no-nan (fin s m d) e = tt
 
 -- a test that is known
 pub cond-true : {A : Type 0} (t : Bool) (a b : A) → t ≡ true → cond t a b ≡ a

@@ -2,12 +2,6 @@
 use borrow.Author.Needs.{needs}
 use Rattle.convolution.proofs.convolution_answer.Statement.{statement}
 use Rattle.convolution.proofs.convolution_answer.Tie as tie
-use Rattle.convolution.proofs.convolution_answer.Reads as reads
-use Rattle.convolution.proofs.convolution_answer.Lts as lts
-use Rattle.convolution.proofs.size.Reads as size-reads
-use Rattle.convolution.proofs.pads.beyond.Reads as beyond-reads
-use Rattle.convolution.proofs.pads.from_filter.Reads as from-filter-reads
-use Rattle.convolution.proofs.pads.too_far.Reads as too-far-reads
 use Rattle.convolution.specs.Convolutions.{answerOf}
 use Rattle.convolution.specs.Pads.{beyond, centreOf, leftPad, needed, tooFar, rightPad}
 use Rattle.convolution.specs.Tested.{kernel-of}

@@ -7,14 +7,6 @@ use Rattle.border.specs.declared.Border.{Border}
 use borrow.Author.Needs.{needs}
 use Rattle.convolution.proofs.convolve.Statement.{statement}
 use Rattle.convolution.proofs.convolve.Tie as tie
-use Rattle.convolution.proofs.convolve.Reads as reads
-use Rattle.convolution.proofs.convolve.Lts as lts
-use Rattle.border.proofs.pad.copy_to.Reads as copy-to-reads
-use Rattle.border.proofs.pad.pad.Reads as pad-reads
-use Rattle.convolution.proofs.convolution_answer.Reads as convolution-answer-reads
-use Rattle.convolution.proofs.pads.from_filter.Reads as from-filter-reads
-use Rattle.convolution.proofs.pads.split.Reads as split-reads
-use Rattle.convolution.proofs.work.sums.Reads as sums-reads
 use Prim.Native.Nat.{_<_, _+_, ℕ}
 use Rattle.convolution.specs.Sums.{convolved, convolution}
 use Rattle.convolution.specs.Tested.{Convolving, convolving, copying, pads}

@@ -4,8 +4,6 @@ use Rattle.border.specs.declared.rule.Place.the-variants.{Before}
 use borrow.Author.Needs.{needs}
 use Rattle.convolution.proofs.size.Statement.{statement}
 use Rattle.convolution.proofs.size.Tie as tie
-use Rattle.convolution.proofs.size.Reads as reads
-use Rattle.convolution.proofs.size.Lts as lts
 use Prim.Native.Nat.{_≤_}
 use Rattle.convolution.specs.Pads.{centreOf}
 use lib.IntN.{natAbs}

@@ -7,10 +7,6 @@ use Rattle.synthesis.proofs.Synthesis.{enum}
 use borrow.Author.Needs.{needs}
 use Rattle.synthesis.proofs.synthesise.Statement.{statement}
 use Rattle.synthesis.proofs.synthesise.Tie as tie
-use Rattle.synthesis.proofs.synthesise.Reads as reads
-use Rattle.synthesis.proofs.synthesise.Lts as lts
-use Rattle.synthesis.proofs.synthesis_answer.Reads as synthesis-answer-reads
-use Rattle.synthesis.proofs.work.join.Reads as join-reads
 use Prim.Native.Nat.{_<_}
 use Rattle.synthesis.specs.Sums.{joined}
 use Rattle.synthesis.specs.Tested.{joinable}

@@ -2,9 +2,6 @@
 use borrow.Author.Needs.{needs}
 use Rattle.analysis.proofs.work.bands.Statement.{statement}
 use Rattle.analysis.proofs.work.bands.Tie as tie
-use Rattle.analysis.proofs.work.bands.Reads as reads
-use Rattle.analysis.proofs.work.bands.Lts as lts
-use Rattle.analysis.proofs.work.place.Reads as place-reads
 use Prim.Native.Nat.{_-_, _≤_}
 use Rattle.numbers.specs.Words.{written}
 use Rattle.numbers.specs.Write.{written-full, written-start, written-step}

@@ -2,9 +2,6 @@
 use borrow.Author.Needs.{needs}
 use Rattle.analysis.proofs.work.place.Statement.{statement}
 use Rattle.analysis.proofs.work.place.Tie as tie
-use Rattle.analysis.proofs.work.place.Reads as reads
-use Rattle.analysis.proofs.work.place.Lts as lts
-use Rattle.analysis.proofs.work.tap.Reads as tap-reads
 use Prim.Native.Nat.{_-_, _≤_}
 use Rattle.analysis.specs.Taps.{sum-end, sum-start, sum-step}
 use denote.Ref.{now}

@@ -2,12 +2,6 @@
 use borrow.Author.Needs.{needs}
 use Rattle.bank.proofs.making.bank.Statement.{statement}
 use Rattle.bank.proofs.making.bank.Tie as tie
-use Rattle.bank.proofs.making.bank.Reads as reads
-use Rattle.bank.proofs.making.bank.Lts as lts
-use Rattle.bank.proofs.making.done.Reads as done-reads
-use Rattle.bank.proofs.making.held.Reads as held-reads
-use Rattle.bank.proofs.making.refused.Reads as refused-reads
-use Rattle.bank.proofs.sizes.bad_taps.Reads as bad-taps-reads
 use Prim.Native.Nat.{ℕ}
 use Rattle.bank.specs.Banks.{zeros}
 use Rattle.bank.specs.Tested.{good-taps, made-bank, refused-bank}

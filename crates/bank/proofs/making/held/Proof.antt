@@ -2,8 +2,6 @@
 use borrow.Author.Needs.{needs}
 use Rattle.bank.proofs.making.held.Statement.{statement}
 use Rattle.bank.proofs.making.held.Tie as tie
-use Rattle.bank.proofs.making.held.Reads as reads
-use Rattle.bank.proofs.making.held.Lts as lts
 use Prim.Native.Nat.{_-_, _≤_}
 use Rattle.bank.specs.Banks.{zeros}
 use Rattle.numbers.specs.Tests.{literal-zero}

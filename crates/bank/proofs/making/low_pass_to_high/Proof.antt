@@ -2,9 +2,6 @@
 use borrow.Author.Needs.{needs}
 use Rattle.bank.proofs.making.low_pass_to_high.Statement.{statement}
 use Rattle.bank.proofs.making.low_pass_to_high.Tie as tie
-use Rattle.bank.proofs.making.low_pass_to_high.Reads as reads
-use Rattle.bank.proofs.making.low_pass_to_high.Lts as lts
-use Rattle.bank.proofs.making.signed.Reads as signed-reads
 use Prim.Native.Nat.{_-_, _≤_}
 use Rattle.bank.specs.Banks.{mirror, signed, zeros}
 use Rattle.numbers.specs.Tests.{literal-zero}

@@ -2,13 +2,6 @@
 use borrow.Author.Needs.{needs}
 use Rattle.bank.proofs.making.mirrored.Statement.{statement}
 use Rattle.bank.proofs.making.mirrored.Tie as tie
-use Rattle.bank.proofs.making.mirrored.Reads as reads
-use Rattle.bank.proofs.making.mirrored.Lts as lts
-use Rattle.bank.proofs.making.done.Reads as done-reads
-use Rattle.bank.proofs.making.held.Reads as held-reads
-use Rattle.bank.proofs.making.low_pass_to_high.Reads as low-pass-to-high-reads
-use Rattle.bank.proofs.making.refused.Reads as refused-reads
-use Rattle.bank.proofs.sizes.bad_taps.Reads as bad-taps-reads
 use Rattle.bank.specs.Tested.{good-taps, made-bank, refused-bank}
 use borrow.Author.Tests.{eq-eqb}
 use denote.Ref.{now}

@@ -7,9 +7,6 @@ use Rattle.bank.proofs.sizes.Size.{enum}
 use borrow.Author.Needs.{needs}
 use Rattle.bank.proofs.sizes.analysis_scratch.Statement.{statement}
 use Rattle.bank.proofs.sizes.analysis_scratch.Tie as tie
-use Rattle.bank.proofs.sizes.analysis_scratch.Reads as reads
-use Rattle.bank.proofs.sizes.analysis_scratch.Lts as lts
-use Rattle.bank.proofs.sizes.band_length.Reads as band-length-reads
 use Prim.Native.Nat.{_<_, _*_, _+_, _-_, ℕ}
 use Rattle.bank.specs.Tested.{sized-alike, sized, Sized}
 use Rattle.numbers.specs.Tests.{key-above}

@@ -8,8 +8,6 @@ use denote.Ref.{now}
 use borrow.Author.Needs.{needs}
 use Rattle.border.proofs.pad.copy_to.Statement.{statement}
 use Rattle.border.proofs.pad.copy_to.Tie as tie
-use Rattle.border.proofs.pad.copy_to.Reads as reads
-use Rattle.border.proofs.pad.copy_to.Lts as lts
 use Rattle.numbers.specs.Words.{placed}
 use Rattle.numbers.specs.Write.{placed-start, placed-end, placed-step}
 

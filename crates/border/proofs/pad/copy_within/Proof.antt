@@ -10,8 +10,6 @@ use denote.Ref.{now}
 use borrow.Author.Needs.{needs}
 use Rattle.border.proofs.pad.copy_within.Statement.{statement}
 use Rattle.border.proofs.pad.copy_within.Tie as tie
-use Rattle.border.proofs.pad.copy_within.Reads as reads
-use Rattle.border.proofs.pad.copy_within.Lts as lts
 use Rattle.numbers.specs.Words.{placed}
 use Rattle.numbers.specs.Write.{getD-placed-before, getD-placed-behind, placed-start, placed-step, placed-end}
 

@@ -10,9 +10,6 @@ use borrow.Rule.Slice.PartMut.{mid-len}
 use borrow.Author.Needs.{needs}
 use Rattle.border.proofs.pad.fill.Statement.{statement}
 use Rattle.border.proofs.pad.fill.Tie as tie
-use Rattle.border.proofs.pad.fill.Reads as reads
-use Rattle.border.proofs.pad.fill.Lts as lts
-use Rattle.border.proofs.rule.padded_at.Reads as padded-at-reads
 use Rattle.border.specs.Reach.{Asked, filled}
 use Rattle.border.specs.Pads.{fill-asked, filled-part}
 use Rattle.border.specs.Rule.{padded}

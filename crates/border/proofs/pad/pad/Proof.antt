@@ -4,10 +4,6 @@ use mathlib.Core.Path.{_∙_}
 use borrow.Author.Needs.{needs}
 use Rattle.border.proofs.pad.pad.Statement.{statement}
 use Rattle.border.proofs.pad.pad.Tie as tie
-use Rattle.border.proofs.pad.pad.Reads as reads
-use Rattle.border.proofs.pad.pad.Lts as lts
-use Rattle.border.proofs.pad.copy_to.Reads as copy-to-reads
-use Rattle.border.proofs.pad.pad_ends.Reads as pad-ends-reads
 use Rattle.border.specs.Pads.{pad-all}
 
 copy-to-requires : tie.Need-copy-to-requires

@@ -6,9 +6,6 @@ use mathlib.Core.Path.{ap, _∙_}
 use borrow.Author.Needs.{needs}
 use Rattle.border.proofs.pad.pad_ends.Statement.{statement}
 use Rattle.border.proofs.pad.pad_ends.Tie as tie
-use Rattle.border.proofs.pad.pad_ends.Reads as reads
-use Rattle.border.proofs.pad.pad_ends.Lts as lts
-use Rattle.border.proofs.pad.fill.Reads as fill-reads
 use Rattle.border.specs.Pads.{ends, fill-left, fill-right}
 use Rattle.border.specs.Reach.{filled}
 use Rattle.numbers.specs.Tests.{kept}

@@ -11,10 +11,6 @@ use mathlib.Core.Path.{refl, ap, _∙_}
 use borrow.Author.Needs.{needs}
 use Rattle.border.proofs.pad.pad_within.Statement.{statement}
 use Rattle.border.proofs.pad.pad_within.Tie as tie
-use Rattle.border.proofs.pad.pad_within.Reads as reads
-use Rattle.border.proofs.pad.pad_within.Lts as lts
-use Rattle.border.proofs.pad.copy_within.Reads as copy-within-reads
-use Rattle.border.proofs.pad.pad_ends.Reads as pad-ends-reads
 use Rattle.border.specs.Rule.{padded}
 use Rattle.numbers.specs.Words.{placed, plusZero}
 

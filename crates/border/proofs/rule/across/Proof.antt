@@ -5,8 +5,6 @@ use mathlib.Core.Path.{sym, ap, subst}
 use borrow.Author.Needs.{needs}
 use Rattle.border.proofs.rule.across.Statement.{statement}
 use Rattle.border.proofs.rule.across.Tie as tie
-use Rattle.border.proofs.rule.across.Reads as reads
-use Rattle.border.proofs.rule.across.Lts as lts
 use Rattle.border.specs.Reach.{Near, Past}
 use Rattle.border.specs.Rule.{across}
 use Rattle.border.specs.Rules.{across-at}

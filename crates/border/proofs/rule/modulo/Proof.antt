@@ -5,8 +5,6 @@ use mathlib.Core.Path.{sym, ap}
 use borrow.Author.Needs.{needs}
 use Rattle.border.proofs.rule.modulo.Statement.{statement}
 use Rattle.border.proofs.rule.modulo.Tie as tie
-use Rattle.border.proofs.rule.modulo.Reads as reads
-use Rattle.border.proofs.rule.modulo.Lts as lts
 use Rattle.border.specs.Rule.{modulo}
 use Rattle.border.specs.Rules.{mod-low}
 

@@ -4,8 +4,6 @@ use mathlib.Core.Path.{sym, ap}
 use borrow.Author.Needs.{needs}
 use Rattle.border.proofs.rule.nearest.Statement.{statement}
 use Rattle.border.proofs.rule.nearest.Tie as tie
-use Rattle.border.proofs.rule.nearest.Reads as reads
-use Rattle.border.proofs.rule.nearest.Lts as lts
 use Rattle.border.specs.Rule.{nearest}
 
 enum-told : tie.Need-enum-told

@@ -3,12 +3,6 @@ use Rattle.border.specs.declared.rule.Source.the-variants.{Sample}
 use borrow.Author.Needs.{needs}
 use Rattle.border.proofs.rule.outside.Statement.{statement}
 use Rattle.border.proofs.rule.outside.Tie as tie
-use Rattle.border.proofs.rule.outside.Reads as reads
-use Rattle.border.proofs.rule.outside.Lts as lts
-use Rattle.border.proofs.rule.across.Reads as across-reads
-use Rattle.border.proofs.rule.modulo.Reads as modulo-reads
-use Rattle.border.proofs.rule.nearest.Reads as nearest-reads
-use Rattle.border.proofs.rule.reflect.Reads as reflect-reads
 use Prim.Native.Nat.{_<_}
 use Rattle.border.specs.Rule.{across, modulo, nearest}
 use Rattle.border.specs.Rules.{across-far, across-one, named}

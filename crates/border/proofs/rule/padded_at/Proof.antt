@@ -7,11 +7,6 @@ use mathlib.Core.Path.{sym, subst}
 use borrow.Author.Needs.{needs}
 use Rattle.border.proofs.rule.padded_at.Statement.{statement}
 use Rattle.border.proofs.rule.padded_at.Tie as tie
-use Rattle.border.proofs.rule.padded_at.Reads as reads
-use Rattle.border.proofs.rule.padded_at.Lts as lts
-use Rattle.border.proofs.rule.place_in.Reads as place-in-reads
-use Rattle.border.proofs.rule.value.Reads as value-reads
-use Rattle.border.proofs.rule.source_at.Reads as source-at-reads
 use Rattle.border.specs.Reach.{Reach, Within}
 use Rattle.border.specs.Rules.{source-at, asked-reach, padded-by, source-in}
 use Rattle.numbers.specs.Words.{plusZero}

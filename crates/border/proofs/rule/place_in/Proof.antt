@@ -3,8 +3,6 @@ use borrow.Author.Tests.{lt-ltb, le-ltb}
 use borrow.Author.Needs.{needs}
 use Rattle.border.proofs.rule.place_in.Statement.{statement}
 use Rattle.border.proofs.rule.place_in.Tie as tie
-use Rattle.border.proofs.rule.place_in.Reads as reads
-use Rattle.border.proofs.rule.place_in.Lts as lts
 
 sub-t4 : tie.Need-sub-t4
 sub-t4 c = search needs

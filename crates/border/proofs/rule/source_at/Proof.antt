@@ -4,9 +4,6 @@ use mathlib.Core.Path.{sym, _∙_, subst}
 use borrow.Author.Needs.{needs}
 use Rattle.border.proofs.rule.source_at.Statement.{statement}
 use Rattle.border.proofs.rule.source_at.Tie as tie
-use Rattle.border.proofs.rule.source_at.Reads as reads
-use Rattle.border.proofs.rule.source_at.Lts as lts
-use Rattle.border.proofs.rule.outside.Reads as outside-reads
 use Rattle.border.specs.Reach.{Reach}
 use Rattle.border.specs.Rule.{outside}
 use Rattle.border.specs.Rules.{source-at, source-before, source-past}

@@ -5,8 +5,6 @@ use native.Mathlib.Omega.{arith}
 use borrow.Author.Needs.{needs}
 use Rattle.border.proofs.rule.value.Statement.{statement}
 use Rattle.border.proofs.rule.value.Tie as tie
-use Rattle.border.proofs.rule.value.Reads as reads
-use Rattle.border.proofs.rule.value.Lts as lts
 use Rattle.border.specs.Rule.{source}
 use Rattle.border.specs.Rules.{sample-in, value-sample, value-zero}
 

@@ -3,8 +3,6 @@ use Rattle.border.specs.declared.rule.Place.{Place}
 use borrow.Author.Needs.{needs}
 use Rattle.convolution.proofs.pads.beyond.Statement.{statement}
 use Rattle.convolution.proofs.pads.beyond.Tie as tie
-use Rattle.convolution.proofs.pads.beyond.Reads as reads
-use Rattle.convolution.proofs.pads.beyond.Lts as lts
 use Rattle.convolution.specs.Pads.{beyond, centreOf}
 use borrow.Author.Tests.{le-ltb, lt-ltb}
 use Rattle.convolution.specs.Places.{beyond-at, beyond-before}

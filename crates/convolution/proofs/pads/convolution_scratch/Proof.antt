@@ -3,11 +3,6 @@ use Rattle.convolution.specs.declared.pads.Scratch.{Scratch}
 use borrow.Author.Needs.{needs}
 use Rattle.convolution.proofs.pads.convolution_scratch.Statement.{statement}
 use Rattle.convolution.proofs.pads.convolution_scratch.Tie as tie
-use Rattle.convolution.proofs.pads.convolution_scratch.Reads as reads
-use Rattle.convolution.proofs.pads.convolution_scratch.Lts as lts
-use Rattle.convolution.proofs.pads.beyond.Reads as beyond-reads
-use Rattle.convolution.proofs.pads.from_filter.Reads as from-filter-reads
-use Rattle.convolution.proofs.pads.split.Reads as split-reads
 use Prim.Native.Nat.{_≤_}
 use Rattle.convolution.specs.Pads.{beyond, centreOf}
 use Rattle.convolution.specs.Places.{nears, within, back}

@@ -3,9 +3,6 @@ use Rattle.border.specs.declared.rule.Place.{Place}
 use borrow.Author.Needs.{needs}
 use Rattle.convolution.proofs.pads.left_pad.Statement.{statement}
 use Rattle.convolution.proofs.pads.left_pad.Tie as tie
-use Rattle.convolution.proofs.pads.left_pad.Reads as reads
-use Rattle.convolution.proofs.pads.left_pad.Lts as lts
-use Rattle.numbers.proofs.less.Reads as less-reads
 use Prim.Native.Nat.{ℕ}
 use Rattle.convolution.specs.Pads.{centreOf, leftPad}
 use Rattle.convolution.specs.Places.{left-at, left-before}

@@ -2,8 +2,6 @@
 use borrow.Author.Needs.{needs}
 use Rattle.convolution.proofs.pads.over.Statement.{statement}
 use Rattle.convolution.proofs.pads.over.Tie as tie
-use Rattle.convolution.proofs.pads.over.Reads as reads
-use Rattle.convolution.proofs.pads.over.Lts as lts
 use Rattle.convolution.specs.Pads.{padOver}
 use borrow.Author.Tests.{le-ltb, lt-ltb}
 

@@ -7,14 +7,12 @@ use native.Mathlib.Omega.{arith}
 use mathlib.Core.Path.{sym, ap, _∙_}
 use Rattle.convolution.proofs.pads.split.Statement.{statement}
 use Rattle.convolution.proofs.pads.split.Tie as tie
-use Rattle.convolution.proofs.pads.split.Reads as reads
-use Rattle.convolution.proofs.pads.split.Lts as lts
 use Rattle.numbers.specs.Words.{at}
 
 sub-t4 : tie.Need-sub-t4
 sub-t4 c =
     let f = c .before .fits .centre in
-    flip-fits _ (toZ-fits w64 _ (ofZ-fits w64 _ f)) (c .if1 .taken)
+    flip-fits _ (toZ-fits w64 _ (ofZ-fits w64 _ f))
 
 cast-t5 : tie.Need-cast-t5
 cast-t5 c =

@@ -3,9 +3,6 @@ use Rattle.border.specs.declared.Border.{Border}
 use borrow.Author.Needs.{needs}
 use Rattle.convolution.proofs.pads.too_far.Statement.{statement}
 use Rattle.convolution.proofs.pads.too_far.Tie as tie
-use Rattle.convolution.proofs.pads.too_far.Reads as reads
-use Rattle.convolution.proofs.pads.too_far.Lts as lts
-use Rattle.convolution.proofs.pads.over.Reads as over-reads
 use Rattle.convolution.specs.Pads.{tooFar}
 use mathlib.Core.Path.{_∙_, ap, sym}
 

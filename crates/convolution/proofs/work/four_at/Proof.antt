@@ -2,8 +2,6 @@
 use borrow.Author.Needs.{needs}
 use Rattle.convolution.proofs.work.four_at.Statement.{statement}
 use Rattle.convolution.proofs.work.four_at.Tie as tie
-use Rattle.convolution.proofs.work.four_at.Reads as reads
-use Rattle.convolution.proofs.work.four_at.Lts as lts
 use Prim.Native.Nat.{_+_, _-_, _<_, _≤_, ℕ}
 use Rattle.border.specs.Rule.{padded}
 use Rattle.convolution.specs.Turns.{sum-end, sum-start, sum-step}

@@ -2,9 +2,6 @@
 use borrow.Author.Needs.{needs}
 use Rattle.convolution.proofs.work.fours.Statement.{statement}
 use Rattle.convolution.proofs.work.fours.Tie as tie
-use Rattle.convolution.proofs.work.fours.Reads as reads
-use Rattle.convolution.proofs.work.fours.Lts as lts
-use Rattle.convolution.proofs.work.four_at.Reads as four-at-reads
 use Prim.Native.Nat.{_-_, _≤_}
 use Rattle.border.specs.Rule.{padded}
 use Rattle.convolution.specs.Places.{within}

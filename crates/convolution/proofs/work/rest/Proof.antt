@@ -2,9 +2,6 @@
 use borrow.Author.Needs.{needs}
 use Rattle.convolution.proofs.work.rest.Statement.{statement}
 use Rattle.convolution.proofs.work.rest.Tie as tie
-use Rattle.convolution.proofs.work.rest.Reads as reads
-use Rattle.convolution.proofs.work.rest.Lts as lts
-use Rattle.convolution.proofs.work.one_at.Reads as one-at-reads
 use Prim.Native.Nat.{_+_, _-_, _≤_, ℕ}
 use Rattle.border.specs.Rule.{padded}
 use Rattle.convolution.specs.Places.{within}

@@ -2,10 +2,6 @@
 use borrow.Author.Needs.{needs}
 use Rattle.convolution.proofs.work.sums.Statement.{statement}
 use Rattle.convolution.proofs.work.sums.Tie as tie
-use Rattle.convolution.proofs.work.sums.Reads as reads
-use Rattle.convolution.proofs.work.sums.Lts as lts
-use Rattle.convolution.proofs.work.fours.Reads as fours-reads
-use Rattle.convolution.proofs.work.rest.Reads as rest-reads
 use Rattle.border.specs.Rule.{padded}
 use Rattle.convolution.specs.Turns.{written-rest}
 use denote.Ref.{now}

@@ -2,11 +2,6 @@
 use borrow.Author.Needs.{needs}
 use Rattle.synthesis.proofs.work.edge.Statement.{statement}
 use Rattle.synthesis.proofs.work.edge.Tie as tie
-use Rattle.synthesis.proofs.work.edge.Reads as reads
-use Rattle.synthesis.proofs.work.edge.Lts as lts
-use Rattle.numbers.proofs.least.Reads as least-reads
-use Rattle.numbers.proofs.less.Reads as less-reads
-use Rattle.synthesis.proofs.work.spread.Reads as spread-reads
 use Prim.Native.Nat.{_-_, _≤_, _*_, _+_, _<_, min, ℕ}
 use Rattle.synthesis.specs.Joins.{Joining, joining-all, joining-none, joining-next}
 use lib.Ieee.{binary64}

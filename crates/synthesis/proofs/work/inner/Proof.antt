@@ -2,9 +2,6 @@
 use borrow.Author.Needs.{needs}
 use Rattle.synthesis.proofs.work.inner.Statement.{statement}
 use Rattle.synthesis.proofs.work.inner.Tie as tie
-use Rattle.synthesis.proofs.work.inner.Reads as reads
-use Rattle.synthesis.proofs.work.inner.Lts as lts
-use Rattle.synthesis.proofs.work.spread.Reads as spread-reads
 use Prim.Native.Nat.{_*_, _+_, _-_, _<_, _≤_, ℕ}
 use Rattle.numbers.specs.Tests.{kept}
 use Rattle.numbers.specs.Words.{at, tab}

@@ -2,11 +2,6 @@
 use borrow.Author.Needs.{needs}
 use Rattle.synthesis.proofs.work.join.Statement.{statement}
 use Rattle.synthesis.proofs.work.join.Tie as tie
-use Rattle.synthesis.proofs.work.join.Reads as reads
-use Rattle.synthesis.proofs.work.join.Lts as lts
-use Rattle.synthesis.proofs.work.edge.Reads as edge-reads
-use Rattle.synthesis.proofs.work.inner.Reads as inner-reads
-use Rattle.numbers.proofs.most.Reads as most-reads
 use Prim.Native.Nat.{_-_, _/_, max, ℕ, _≤_}
 use Rattle.synthesis.specs.Works.{InnerPairs, Joinable, joinedPairs}
 use Rattle.numbers.specs.Tests.{kept}

@@ -2,8 +2,6 @@
 use borrow.Author.Needs.{needs}
 use Rattle.synthesis.proofs.work.spread.Statement.{statement}
 use Rattle.synthesis.proofs.work.spread.Tie as tie
-use Rattle.synthesis.proofs.work.spread.Reads as reads
-use Rattle.synthesis.proofs.work.spread.Lts as lts
 use Prim.Native.Nat.{_+_, _-_, _≤_}
 use Rattle.synthesis.specs.Sums.{onto}
 use Rattle.synthesis.specs.Works.{spreadAt}

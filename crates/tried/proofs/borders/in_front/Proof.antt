@@ -5,11 +5,6 @@ use Rattle.tried.proofs.Reached.{wrap}
 use borrow.Author.Needs.{needs}
 use Rattle.tried.proofs.borders.in_front.Statement.{statement}
 use Rattle.tried.proofs.borders.in_front.Tie as tie
-use Rattle.tried.proofs.borders.in_front.Reads as reads
-use Rattle.tried.proofs.borders.in_front.Lts as lts
-use Rattle.border.proofs.pad.pad_within.Reads as pad-within-reads
-use Rattle.trying.proofs.print.floats.Reads as floats-reads
-use Rattle.trying.proofs.print.heading.Reads as heading-reads
 
 slice-aggregate-heading : tie.Need-slice-aggregate-heading
 slice-aggregate-heading c = search needs

@@ -1,19 +1,11 @@
 -- `bits` is safe and ends: each turn writes one of the 16 places behind the space, and a float that equals itself is no NaN, so it has bits.
-use mathlib.Core.Path.{_≡_, subst}
-use mathlib.Core.Bool.{false, not}
+use mathlib.Core.Path.{_≡_}
 use Prim.Native.Nat.{_≤_}
-use lib.Dec.{T}
 use lib.ListN.{length, length-set}
-use lib.Ieee.{Float, nan, inf, fin, ne, isNan}
+use Rattle.numbers.specs.Tests.{no-nan}
 use borrow.Author.Needs.{needs}
 use Rattle.trying.proofs.print.bits.Statement.{statement}
 use Rattle.trying.proofs.print.bits.Tie as tie
-
-self : (x : Float) → ne x x ≡ false → T (not (isNan x))
-unfolding ne isNan
-self nan e = absurd (subst T e tt)
-self (inf s) e = tt
-self (fin s m d) e = tt
 
 abbrev Inv-loop : tie.InvT-loop
 Inv-loop x rest₀ word₀ i₀ rest word i = (i ≤ 16) × (length word ≡ 17)
@@ -31,7 +23,7 @@ returns : tie.Need-returns Inv-loop μ-loop
 returns c = search needs
 
 float-to-bits-rest : tie.Need-float-to-bits-rest Inv-loop μ-loop
-float-to-bits-rest c = self _ (c .if1 .left)
+float-to-bits-rest c = no-nan _ (c .if1 .left)
 
 loop-holds : tie.Need-loop-holds Inv-loop μ-loop
 loop-holds c = search needs

@@ -1,0 +1,171 @@
+-- `convolution` is safe: each list of a line is the front of an array that has room for it.
+use native.Mathlib.Omega.{arith}
+use Rattle.replay.specs.Fronts.{front}
+use borrow.Author.Needs.{needs}
+use Rattle.replay.proofs.lines.convolution.Statement.{statement}
+use Rattle.replay.proofs.lines.convolution.Tie as tie
+
+word-requires : tie.Need-word-requires
+word-requires c κs = search needs
+
+word-requires-2 : tie.Need-word-requires-2
+word-requires-2 c κs = search needs
+
+signed-requires : tie.Need-signed-requires
+signed-requires c κs = search needs
+
+count-requires : tie.Need-count-requires
+count-requires c κs = search needs
+
+floats-requires : tie.Need-floats-requires
+floats-requires c κs = search needs
+
+add-to-out : tie.Need-add-to-out
+add-to-out c = search needs
+
+count-requires-2 : tie.Need-count-requires-2
+count-requires-2 c κs = search needs
+
+add-floats : tie.Need-add-floats
+add-floats c = search needs
+
+floats-requires-2 : tie.Need-floats-requires-2
+floats-requires-2 c κs = search needs
+
+add-to-scratch : tie.Need-add-to-scratch
+add-to-scratch c = search needs
+
+add-to-scratch-2 : tie.Need-add-to-scratch-2
+add-to-scratch-2 c = search needs
+
+count-requires-3 : tie.Need-count-requires-3
+count-requires-3 c κs = search needs
+
+add-floats-2 : tie.Need-add-floats-2
+add-floats-2 c = search needs
+
+floats-requires-3 : tie.Need-floats-requires-3
+floats-requires-3 c κs = search needs
+
+add-to-kernel : tie.Need-add-to-kernel
+add-to-kernel c = search needs
+
+add-to-kernel-2 : tie.Need-add-to-kernel-2
+add-to-kernel-2 c = search needs
+
+count-requires-4 : tie.Need-count-requires-4
+count-requires-4 c κs = search needs
+
+add-floats-3 : tie.Need-add-floats-3
+add-floats-3 c = search needs
+
+floats-requires-4 : tie.Need-floats-requires-4
+floats-requires-4 c κs = search needs
+
+blank-requires : tie.Need-blank-requires
+blank-requires c κs = search needs
+
+array-share-prefix-line : tie.Need-array-share-prefix-line
+array-share-prefix-line c = search needs
+
+slice-aggregate-isferghul-convolve : tie.Need-slice-aggregate-isferghul-convolve
+slice-aggregate-isferghul-convolve c = front _ _ (c .before .before .before .before .before .before .before .before .before .count .ensures) (c .before .before .before .before .before .before .before .before .floats .ensures)
+
+array-borrow-prefix-out : tie.Need-array-borrow-prefix-out
+array-borrow-prefix-out c = search needs
+
+slice-aggregate-isferghul-convolve-2 : tie.Need-slice-aggregate-isferghul-convolve-2
+slice-aggregate-isferghul-convolve-2 c = front _ _ (c .before .before .before .before .before .before .before .before .count2 .ensures) (c .before .before .before .before .before .before .before .floats2 .ensures)
+
+array-borrow-prefix-scratch : tie.Need-array-borrow-prefix-scratch
+array-borrow-prefix-scratch c = search needs
+
+slice-aggregate-isferghul-convolve-3 : tie.Need-slice-aggregate-isferghul-convolve-3
+slice-aggregate-isferghul-convolve-3 c = front _ _ (c .before .before .before .before .before .before .before .count3 .ensures) (c .before .before .before .before .before .before .floats3 .ensures)
+
+array-share-prefix-kernel : tie.Need-array-share-prefix-kernel
+array-share-prefix-kernel c = search needs
+
+slice-aggregate-isferghul-convolve-4 : tie.Need-slice-aggregate-isferghul-convolve-4
+slice-aggregate-isferghul-convolve-4 c = front _ _ (c .before .before .before .before .before .before .count4 .ensures) (c .before .before .before .before .before .floats4 .ensures)
+
+isferghul-convolve-requires : tie.Need-isferghul-convolve-requires
+isferghul-convolve-requires c κs = search needs
+
+add-answer : tie.Need-add-answer
+add-answer c = omega (arith, c .before .before .before .before .before .before .before .before .before .before .count4 .ensures, c .before .before .before .before .before .before .before .before .before .before .before .before .count3 .ensures, c .before .before .before .before .before .before .before .before .before .before .before .before .before .before .count2 .ensures, c .before .before .before .before .before .before .before .before .before .before .before .before .before .before .before .before .count .ensures)
+
+add-answer-2 : tie.Need-add-answer-2
+add-answer-2 c = omega (arith, c .before .before .before .before .before .before .before .before .before .before .count4 .ensures, c .before .before .before .before .before .before .before .before .before .before .before .before .count3 .ensures, c .before .before .before .before .before .before .before .before .before .before .before .before .before .before .count2 .ensures, c .before .before .before .before .before .before .before .before .before .before .before .before .before .before .before .before .count .ensures)
+
+told-requires : tie.Need-told-requires
+told-requires c κs = search needs
+
+returns : tie.Need-returns
+returns c = search needs
+
+answer-length-requires : tie.Need-answer-length-requires
+answer-length-requires c κs = search needs
+
+add-then : tie.Need-add-then
+add-then c = omega (arith, c .answer-length .ensures, c .before .before .before .before .before .before .before .before .before .before .before .before .before .before .count4 .ensures, c .before .before .before .before .before .before .before .before .before .before .before .before .before .before .before .before .count3 .ensures, c .before .before .before .before .before .before .before .before .before .before .before .before .before .before .before .before .before .before .count2 .ensures, c .before .before .before .before .before .before .before .before .before .before .before .before .before .before .before .before .before .before .before .before .count .ensures)
+
+same-requires : tie.Need-same-requires
+same-requires c κs = search needs
+
+returns-2 : tie.Need-returns-2
+returns-2 c = search needs
+
+add-same : tie.Need-add-same
+add-same c = omega (arith, c .before .before .before .answer-length .ensures, c .before .before .before .before .before .before .before .before .before .before .before .before .before .before .before .before .before .count4 .ensures, c .before .before .before .before .before .before .before .before .before .before .before .before .before .before .before .before .before .before .before .count3 .ensures, c .before .before .before .before .before .before .before .before .before .before .before .before .before .before .before .before .before .before .before .before .before .count2 .ensures, c .before .before .before .before .before .before .before .before .before .before .before .before .before .before .before .before .before .before .before .before .before .before .before .count .ensures)
+
+same-requires-2 : tie.Need-same-requires-2
+same-requires-2 c κs = search needs
+
+returns-3 : tie.Need-returns-3
+returns-3 c = search needs
+
+pub convolution-spec : {M : Type 1} → statement M
+convolution-spec =
+    tie.close
+    (tie.spec
+    word-requires
+    word-requires-2
+    signed-requires
+    count-requires
+    floats-requires
+    add-to-out
+    count-requires-2
+    add-floats
+    floats-requires-2
+    add-to-scratch
+    add-to-scratch-2
+    count-requires-3
+    add-floats-2
+    floats-requires-3
+    add-to-kernel
+    add-to-kernel-2
+    count-requires-4
+    add-floats-3
+    floats-requires-4
+    blank-requires
+    array-share-prefix-line
+    slice-aggregate-isferghul-convolve
+    array-borrow-prefix-out
+    slice-aggregate-isferghul-convolve-2
+    array-borrow-prefix-scratch
+    slice-aggregate-isferghul-convolve-3
+    array-share-prefix-kernel
+    slice-aggregate-isferghul-convolve-4
+    isferghul-convolve-requires
+    add-answer
+    add-answer-2
+    told-requires
+    returns
+    answer-length-requires
+    add-then
+    same-requires
+    returns-2
+    add-same
+    same-requires-2
+    returns-3)

@@ -1,0 +1,2 @@
+-- The replay. Laws: Fronts.
+pub mod Fronts

@@ -1,0 +1,52 @@
+// Replays the Rust's answers: each line of the list is a call with what the Rust answered and what every lent buffer then held.
+mod lines;
+mod lists;
+mod sizes;
+mod text;
+
+// Whether the library answers as this line says.
+fn agrees(words: &[u64]) -> bool {
+    match lists::word(words, 0, 0) {
+        1 => lines::analysis(words),
+        2 => lines::synthesis(words),
+        3 => lines::convolution(words),
+        4 => sizes::of_bank(words),
+        5 => sizes::of_bank(words),
+        6 => sizes::of_bank(words),
+        7 => sizes::convolution_scratch(words),
+        8 => sizes::mirror(words),
+        _ => false,
+    }
+}
+
+fn print(number: usize, what: &[u8]) {
+    io::print_decimal(1, number as u64);
+    io::write_all(1, what);
+}
+
+// Every line in turn, up to the first that is not as it should be.
+fn replay(text: &[u8]) {
+    let mut words = [0u64; 2048];
+    let mut at = text::list_start(text);
+    let mut done = 0usize;
+    while at < text.len() {
+        let line = text::line(text, at, &mut words);
+        if line.count == 0 {
+            print(done, b" agree, then a line that cannot be read\n");
+            return;
+        }
+        if !agrees(&words[..line.count]) {
+            print(done, b" agree, then a line that differs\n");
+            return;
+        }
+        done += 1;
+        at = line.next;
+    }
+    print(done, b" agree\n");
+}
+
+fn main() {
+    let mut text = [0u8; 524288];
+    let n = io::read_full(0, &mut text);
+    replay(&text[..n]);
+}

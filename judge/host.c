@@ -1,0 +1,161 @@
+/* host: reads cases from stdin, calls the library on each, writes the results to stdout (protocol.py says which words).
+   Every list lies between guard words, so that a write outside it shows. */
+#include "isferghul.h"
+#include <stdio.h>
+#include <stdlib.h>
+#include <string.h>
+
+#define PATTERN UINT64_C(0xCCCCCCCCCCCCCCCC)
+#define GUARD UINT64_C(0xA5A5A5A5A5A5A5A5)
+#define ONE_NAN UINT64_C(0x7FF8000000000000)
+#define GUARDS 8
+#define LISTS 6
+
+/* Words that grow. */
+struct words {
+    uint64_t *at;
+    size_t count, room;
+};
+
+/* A list as the case gives it, and the place where the library sees it. */
+struct list {
+    const uint64_t *given;
+    double *seen;
+    size_t count;
+};
+
+/* By operation: how many scalars, how many lists, which of them are lent (a bit each). */
+static const struct { int scalars, lists, lent; } shapes[9] = {
+    {0, 0, 0}, {1, 6, 0x38}, {0, 5, 0x10}, {2, 4, 0x06}, {2, 0, 0}, {2, 0, 0}, {2, 0, 0}, {3, 0, 0}, {0, 2, 0x02},
+};
+
+static void stop(const char *why) {
+    fprintf(stderr, "host: %s\n", why);
+    exit(2);
+}
+
+static void reserve(struct words *w, size_t more) {
+    if (w->room - w->count >= more) return;
+    w->room = 2 * (w->count + more);
+    w->at = realloc(w->at, w->room * sizeof *w->at);
+    if (!w->at) stop("no memory");
+}
+
+static void put(struct words *w, uint64_t word) {
+    reserve(w, 1);
+    w->at[w->count++] = word;
+}
+
+static void read_all(struct words *w) {
+    for (;;) {
+        reserve(w, 1 << 16);
+        size_t got = fread(w->at + w->count, sizeof *w->at, w->room - w->count, stdin);
+        w->count += got;
+        if (got == 0) break;
+    }
+    if (ferror(stdin)) stop("stdin cannot be read");
+}
+
+static uint64_t next(const struct words *in, size_t *at) {
+    if (*at >= in->count) stop("a case ends early");
+    return in->at[(*at)++];
+}
+
+/* Lays the lists out, guard words in front of each and behind it. */
+static void lay_out(struct words *arena, struct list *list, int lists) {
+    size_t need = GUARDS;
+    for (int i = 0; i < lists; i++) need += list[i].count + GUARDS;
+    arena->count = 0;
+    reserve(arena, need);
+    for (int g = 0; g < GUARDS; g++) put(arena, GUARD);
+    for (int i = 0; i < lists; i++) {
+        list[i].seen = (double *)(void *)(arena->at + arena->count);
+        if (list[i].count) memcpy(list[i].seen, list[i].given, list[i].count * sizeof(uint64_t));
+        arena->count += list[i].count;
+        for (int g = 0; g < GUARDS; g++) put(arena, GUARD);
+    }
+}
+
+static uint64_t word_at(const double *x, size_t i) {
+    uint64_t word;
+    memcpy(&word, x + i, sizeof word);
+    return word;
+}
+
+/* The places up to the last one whose bits changed. */
+static size_t reach(const struct list *l) {
+    size_t n = l->count;
+    while (n > 0 && word_at(l->seen, n - 1) == l->given[n - 1]) n--;
+    return n;
+}
+
+static int guards_changed(const struct list *list, int lists) {
+    for (int i = 0; i < lists; i++)
+        for (int g = 1; g <= GUARDS; g++)
+            if (word_at(list[i].seen - g, 0) != GUARD || word_at(list[i].seen + list[i].count, (size_t)g - 1) != GUARD) return 1;
+    return 0;
+}
+
+static uint64_t call(uint64_t op, const uint64_t *s, const struct list *l, size_t carried[2]) {
+    switch (op) {
+    case 1: return isferghul_analyse(s[0], l[0].seen, l[0].count, l[1].seen, l[1].count, l[2].seen, l[2].count,
+                                     l[3].seen, l[3].count, l[4].seen, l[4].count, l[5].seen, l[5].count, carried);
+    case 2: return isferghul_synthesise(l[0].seen, l[0].count, l[1].seen, l[1].count, l[2].seen, l[2].count,
+                                        l[3].seen, l[3].count, l[4].seen, l[4].count, carried);
+    case 3: return isferghul_convolve(s[0], l[0].seen, l[0].count, l[1].seen, l[1].count, l[2].seen, l[2].count,
+                                      l[3].seen, l[3].count, (int64_t)s[1], carried);
+    case 4: return isferghul_band_length(s[0], s[1], carried);
+    case 5: return isferghul_line_length(s[0], s[1], carried);
+    case 6: return isferghul_analysis_scratch(s[0], s[1], carried);
+    case 7: return isferghul_convolution_scratch(s[0], s[1], (int64_t)s[2], carried);
+    default: return isferghul_mirror(l[0].seen, l[0].count, l[1].seen, l[1].count);
+    }
+}
+
+static uint64_t flags_of(const struct list *l, int lists, int lent) {
+    uint64_t flags = guards_changed(l, lists) ? 1 : 0;
+    for (int i = 0; i < lists; i++)
+        if (!(lent >> i & 1) && reach(&l[i]) != 0) flags |= 2;
+    return flags;
+}
+
+static uint64_t one_nan(uint64_t word) {
+    return (word & UINT64_C(0x7FFFFFFFFFFFFFFF)) > UINT64_C(0x7FF0000000000000) ? ONE_NAN : word;
+}
+
+static void put_lent(struct words *out, const struct list *l) {
+    put(out, reach(l));
+    for (size_t i = 0; i < l->count; i++) put(out, one_nan(word_at(l->seen, i)));
+}
+
+/* Runs the case at *at; its result goes behind what out holds. */
+static void run(const struct words *in, size_t *at, struct words *arena, struct words *out) {
+    uint64_t scalars[3] = {0, 0, 0};
+    struct list list[LISTS];
+    uint64_t op = next(in, at);
+    if (op < 1 || op > 8) stop("no such operation");
+    int lists = shapes[op].lists, lent = shapes[op].lent;
+    for (int i = 0; i < shapes[op].scalars; i++) scalars[i] = next(in, at);
+    for (int i = 0; i < lists; i++) {
+        list[i].count = next(in, at);
+        if (list[i].count > in->count - *at) stop("a list ends early");
+        list[i].given = in->at + *at;
+        *at += list[i].count;
+    }
+    lay_out(arena, list, lists);
+    size_t carried[2] = {PATTERN, PATTERN};
+    put(out, call(op, scalars, list, carried));
+    put(out, carried[0]);
+    put(out, carried[1]);
+    put(out, flags_of(list, lists, lent));
+    for (int i = 0; i < lists; i++)
+        if (lent >> i & 1) put_lent(out, &list[i]);
+}
+
+int main(void) {
+    struct words in = {0, 0, 0}, arena = {0, 0, 0}, out = {0, 0, 0};
+    read_all(&in);
+    for (size_t at = 0; at < in.count;) run(&in, &at, &arena, &out);
+    if (out.count && fwrite(out.at, sizeof *out.at, out.count, stdout) != out.count) stop("stdout cannot be written");
+    return fflush(stdout) == 0 ? 0 : 2;
+}

@@ -1,0 +1,50 @@
+"""Asks both sides for sums whose last bits tell two roundings from one.
+
+    probes.py --work FOLDER --driver COMMAND --host COMMAND
+
+With x = 1 + 2^-30 every sum here is -1 + x*x: 2^-29 if the product is rounded before it is added, 2^-29 + 2^-60 if the two are fused."""
+import argparse
+import array
+import sys
+
+from compare import Sides
+from floats import bits
+from protocol import ANALYSE, Case, CONVOLVE, in_hex, results, SYNTHESISE, words_of
+
+X = 1 + 2.0**-30
+TWICE, ONCE = 0x3E20000000000000, 0x3E20000000200000
+
+
+def listed(*numbers):
+    return array.array('Q', [bits(float(x)) for x in numbers])
+
+
+# the case, which of its lent buffers tells, and how many of that one's first numbers do
+PROBES = (
+    ('analysis, approximation', Case(ANALYSE, (0,), [listed(1, X), listed(0, 0), listed(-1, X), listed(7), listed(7), listed(7, 7)]), 0, 1),
+    ('analysis, detail', Case(ANALYSE, (0,), [listed(0, 0), listed(1, X), listed(-1, X), listed(7), listed(7), listed(7, 7)]), 1, 1),
+    ('synthesis, detail then approximation', Case(SYNTHESISE, (), [listed(0, X), listed(X, 0), listed(X, X), listed(X, X), listed(*[-1] * 4)]), 0, 4),
+    ('convolution, one at a time', Case(CONVOLVE, (0, 0), [listed(-1, X), listed(7, 7), listed(7, 7, 7, 7), listed(1, X)]), 0, 1),
+    ('convolution, four at a time', Case(CONVOLVE, (0, 0), [listed(-1, X, X, X), listed(7, 7, 7, 7), listed(*[7] * 6), listed(1, X)]), 0, 1),
+)
+
+
+def main():
+    parser = argparse.ArgumentParser(description=__doc__.splitlines()[0])
+    for name in ('work', 'driver', 'host'):
+        parser.add_argument('--' + name, required=True)
+    told = parser.parse_args()
+    cases = [case for _, case, _, _ in PROBES]
+    bad = 0
+    for side, data in zip(('the Rust', 'ours'), Sides(told.work, told.driver, told.host).run(cases), strict=True):
+        for (name, _, buffer, count), result in zip(PROBES, results(cases, data), strict=True):
+            words = words_of(result.buffers[buffer])[:count]
+            good = result.number == 0 and set(words) == {TWICE}
+            bad += not good
+            fused = ', fused' if ONCE in words else ''
+            print('rounding probe, %s, %s: %s%s' % (side, name, in_hex(words), ' (two roundings)' if good else ': not two roundings' + fused))
+    return 1 if bad else 0
+
+
+if __name__ == '__main__':
+    sys.exit(main())

@@ -1,0 +1,128 @@
+"""The words of a case and of a result: 64-bit, little-endian.
+
+A case is its operation, its scalars, then each list as its count and its words (a float as its bits, a signed number in two's complement).
+A result is the number, two carried words, a word of flags, then for each lent buffer its reach (the places from the front up to the last one
+whose bits changed) and its words, every NaN as one. What carries nothing is PATTERN. The flags, 0 in the Rust's results: bit 0 a word
+outside the lists changed, bit 1 a list that is only read changed."""
+import array
+import collections
+import struct
+import sys
+
+PATTERN = 0xCCCCCCCCCCCCCCCC
+ONE_NAN = 0x7FF8000000000000
+PANICKED, NO_COUNTERPART, NO_NUMBER = 1000, 1001, 1002
+BORDERS = ('Clamp', 'Wrap', 'Reflect', 'Zeros', 'Reflect101')
+
+Shape = collections.namedtuple('Shape', 'name scalars lists lent')
+SHAPES = {
+    1: Shape('analyse', ('border',), ('low', 'high', 'line', 'approx', 'detail', 'scratch'), (3, 4, 5)),
+    2: Shape('synthesise', (), ('low', 'high', 'approx', 'detail', 'out'), (4,)),
+    3: Shape('convolve', ('border', 'centre'), ('line', 'out', 'scratch', 'kernel'), (1, 2)),
+    4: Shape('band_length', ('n', 'f'), (), ()),
+    5: Shape('line_length', ('m', 'f'), (), ()),
+    6: Shape('analysis_scratch', ('n', 'f'), (), ()),
+    7: Shape('convolution_scratch', ('n', 'f', 'centre'), (), ()),
+    8: Shape('mirror', (), ('low', 'high'), (1,)),
+}
+ANALYSE, SYNTHESISE, CONVOLVE, BAND_LENGTH, LINE_LENGTH, ANALYSIS_SCRATCH, CONVOLUTION_SCRATCH, MIRROR = range(1, 9)
+
+if sys.byteorder != 'little' or array.array('Q').itemsize != 8:
+    sys.exit('protocol.py: this machine is not little-endian with words of 64 bits')
+
+
+class Case:
+    """An operation, its scalars as whole numbers, its lists as arrays of words."""
+    __slots__ = ('op', 'scalars', 'lists', 'counts')
+
+    def __init__(self, op, scalars, lists):
+        self.op, self.scalars, self.lists = op, scalars, lists
+        self.counts = [len(words) for words in lists]
+
+    def shape(self):
+        return SHAPES[self.op]
+
+    def lent(self):
+        return [self.lists[i] for i in SHAPES[self.op].lent]
+
+    def size(self):
+        """How many numbers the input has."""
+        return len(self.scalars) + sum(self.counts)
+
+    def encoded(self):
+        head = [self.op] + [scalar % 2**64 for scalar in self.scalars]
+        parts = [struct.pack('<%dQ' % len(head), *head)]
+        for words in self.lists:
+            parts += [struct.pack('<Q', len(words)), words.tobytes()]
+        return b''.join(parts)
+
+    def result_size(self):
+        """How many bytes its result has."""
+        return 8 * (4 + sum(1 + self.counts[i] for i in SHAPES[self.op].lent))
+
+
+class Result:
+    """One result, out of the bytes that a program wrote."""
+    __slots__ = ('number', 'carried', 'flags', 'reaches', 'buffers')
+
+    def __init__(self, case, data, at):
+        self.number, first, second, self.flags = struct.unpack_from('<4Q', data, at)
+        self.carried = (first, second)
+        self.reaches, self.buffers = [], []
+        at += 32
+        for i in SHAPES[case.op].lent:
+            self.reaches.append(int.from_bytes(data[at:at + 8], 'little'))
+            end = at + 8 + 8 * case.counts[i]
+            self.buffers.append(data[at + 8:end])
+            at = end
+
+    def answer(self):
+        """The number and what it carries."""
+        return (self.number,) + tuple(word for word in self.carried if word != PATTERN)
+
+
+def results(cases, data):
+    """A result for each case; the data must be used up exactly."""
+    at = 0
+    for case in cases:
+        if at + case.result_size() > len(data):
+            raise ValueError('the results end early')
+        yield Result(case, data, at)
+        at += case.result_size()
+    if at != len(data):
+        raise ValueError('there are more results than cases')
+
+
+def words_of(data):
+    return array.array('Q', data)
+
+
+def in_hex(words):
+    return ' '.join('%016X' % word for word in words)
+
+
+def readable_case(case):
+    shape = case.shape()
+    lines = [shape.name]
+    for name, scalar in zip(shape.scalars, case.scalars):
+        known = name == 'border' and scalar < len(BORDERS)
+        lines.append('  %s %d%s' % (name, scalar, ' (%s)' % BORDERS[scalar] if known else ''))
+    for name, words in zip(shape.lists, case.lists):
+        lines.append(readable_list(name, words))
+    return lines
+
+
+def readable_list(name, words, most=200):
+    more = ' ..' if len(words) > most else ''
+    return ('  %s, %d: %s' % (name, len(words), in_hex(words[:most]))).rstrip(' :') + more
+
+
+def readable_result(who, case, result):
+    lines = ['%s: number %d, carries %s' % (who, result.number, list(result.answer()[1:]))]
+    for i, reach, data in zip(case.shape().lent, result.reaches, result.buffers):
+        lines.append(readable_list(case.shape().lists[i], words_of(data)) + ' (changed up to %d)' % reach)
+    if result.flags & 1:
+        lines.append('  a word outside the lists changed')
+    if result.flags & 2:
+        lines.append('  a list that is only read changed')
+    return lines
