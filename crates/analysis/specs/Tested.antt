@@ -1,25 +1,20 @@
 -- Laws of the tests: where an answer is done every test passed, which gives the work what it asks for.
-use mathlib.Core.Path.{_≡_, refl, sym}
+use mathlib.Core.Path.{_≡_, refl}
 use Rattle.analysis.specs.declared.Analysis.{Analysis}
-use Rattle.analysis.specs.declared.Analysis.the-variants.{Done}
+use Rattle.analysis.specs.declared.Analysis.the-variants.{Done, MinFilterSize, ApproxDetailsSize, ScratchSize, Limit, Taps}
 use Rattle.analysis.specs.Analyses.{answerOf, numberOf}
-use Prim.Native.Nat.{_≤_, ℕ, _*_, _+_, _-_}
+use Rattle.analysis.specs.Works.{Analysing}
+use Prim.Native.Nat.{ℕ, _*_, _+_, _-_}
 use Rattle.numbers.specs.Tests.{passed}
 use Rattle.numbers.specs.Words.{longest}
 use borrow.Author.Tests.{eqb-true, ltb-false, not-false}
 use lib.Dec.{eqb, ltb, lit<}
-use mathlib.Core.Bool.{false, not}
+use mathlib.Core.Bool.{not}
 use native.Mathlib.Omega.{arith}
 use Rattle.border.specs.declared.Border.{Border}
 use Rattle.border.specs.Reach.{Paddable}
 use Rattle.bank.specs.Lengths.{badTaps, paddedLength, pairs}
 use Rattle.bank.specs.Tested.{Analysable, good-taps}
-
-pub record Analysing (f n a d s : ℕ) : Type 0 where
-  pub ready : Analysable n f
-  pub approxed : a ≡ pairs n f
-  pub detailed : d ≡ pairs n f
-  pub room : paddedLength n f ≤ s
 
 pub analysing : (f n a d s : ℕ) → answerOf f n a d s ≡ Done → Analysing f n a d s
 unfolding answerOf
@@ -37,10 +32,14 @@ analysing f n a d s e =
       room = ltb-false s (paddedLength n f) (p6 .0);
     }
 
--- what is done has taps
-pub tapped : (f n a d s : ℕ) {r : Analysis} → r ≡ answerOf f n a d s → numberOf r ≡ 0 → badTaps f ≡ false
-unfolding answerOf
-tapped f n a d s e z = passed numberOf (badTaps f) (sym e) (lit< tt) z .0
+-- 0 is the number of done alone
+pub done-alone : (r : Analysis) → numberOf r ≡ 0 → r ≡ Done
+done-alone Done e = refl
+done-alone (MinFilterSize n f) e = absurd (omega arith)
+done-alone (ApproxDetailsSize l) e = absurd (omega arith)
+done-alone (ScratchSize need have) e = absurd (omega arith)
+done-alone Limit e = absurd (omega arith)
+done-alone Taps e = absurd (omega arith)
 
 -- the pads of a line whose bands have m places: they may be asked for, and with the line they fill the padded length
 pub pads : (b : Border) (n f m : ℕ) → Analysable n f → m ≡ pairs n f → Paddable b n (f - 2) (2 * m + (f - 2) - n - (f - 2))

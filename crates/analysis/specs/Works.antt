@@ -4,6 +4,8 @@ use mathlib.Core.List.{List}
 use Prim.Native.Nat.{ℕ, _+_, _*_, _≤_}
 use lib.Ieee.{Float, Format}
 use Rattle.numbers.specs.Words.{at}
+use Rattle.bank.specs.Lengths.{pairs, paddedLength}
+use Rattle.bank.specs.Tested.{Analysable}
 use Rattle.analysis.specs.Sums.{dot}
 
 -- the sum of k taps over a line that holds the padded samples, from a place of it on
@@ -25,3 +27,10 @@ pub record Bandable (f padded approx detail : ℕ) : Type 0 where
   pub most : f ≤ 64
   pub both : detail ≡ approx
   pub within : 2 * approx + f ≤ padded + 2
+
+-- f taps, a line of n, bands of a and d and a scratch of s that pass every test
+pub record Analysing (f n a d s : ℕ) : Type 0 where
+  pub ready : Analysable n f
+  pub approxed : a ≡ pairs n f
+  pub detailed : d ≡ pairs n f
+  pub room : paddedLength n f ≤ s

@@ -3,10 +3,9 @@ pub mod work;
 
 ghost use mathlib.Core.Path.{_≡_};
 ghost use Rattle.analysis.specs.Analyses.{answerOf, Analysed};
-use crate::work::bands;
+use crate::work::line_bands;
 use bank::Bank;
 use bank::sizes::bad_taps;
-use border::pad::pad;
 use numbers::LONGEST;
 
 pub enum Analysis {
@@ -60,19 +59,14 @@ pub fn analyse(
         r (now (approx .exit)) (now (detail .exit)) (now (scratch .exit)) ⌝ }
 {
     let f = bank.taps;
-    let n = line.len();
-    let m = approx.len();
-    let answer = analysis_answer(f, n, m, detail.len(), scratch.len());
+    let answer = analysis_answer(f, line.len(), approx.len(), detail.len(), scratch.len());
     let Analysis::Done = answer else {
         return answer;
     };
-    let left = f - 2;
-    let need = 2 * m + left;
     let border = bank.border;
     // Copied before the scratch is written: the compiler then knows that they stay.
     let low = bank.low;
     let high = bank.high;
-    pad(border, line, left, need - n - left, scratch);
-    bands(&low, &high, f, &scratch[..need], approx, detail);
+    line_bands(&low, &high, f, border, line, approx, detail, scratch);
     Analysis::Done
 }

@@ -4,7 +4,10 @@ ghost use Prim.Native.Nat.{_*_};
 ghost use lib.ListN.{length};
 ghost use lib.Ieee.{binary64, add, mul};
 ghost use Rattle.numbers.specs.Words.{tab};
-ghost use Rattle.analysis.specs.Works.{tapSum, bandOf, Placeable, Bandable};
+ghost use Rattle.analysis.specs.Lines.{band, paddedInto};
+ghost use Rattle.analysis.specs.Works.{tapSum, bandOf, Placeable, Bandable, Analysing};
+use border::Border;
+use border::pad::pad;
 
 // Both sums of a place travel through the taps as one pair.
 pub struct Pair {
@@ -59,4 +62,27 @@ pub fn bands(
         detail[i] = p.detail;
         i += 1;
     }
+}
+
+// Both bands of a line, by way of the padded line at the front of the scratch.
+pub fn line_bands(
+    low: &[f64; 64],
+    high: &[f64; 64],
+    f: usize,
+    border: Border,
+    line: &[f64],
+    approx: &mut [f64],
+    detail: &mut [f64],
+    scratch: &mut [f64],
+)
+    requires { ⌜ Analysing f (length (now line)) (length (now approx)) (length (now detail)) (length (now scratch)) ⌝ }
+    ensures { λ _. ⌜ (now (approx .exit) ≡ band binary64 (now (low .entry)) f border (now (line .entry)))
+        × (now (detail .exit) ≡ band binary64 (now (high .entry)) f border (now (line .entry)))
+        × (now (scratch .exit) ≡ paddedInto f border (now (line .entry)) (now (scratch .entry))) ⌝ }
+{
+    let n = line.len();
+    let left = f - 2;
+    let need = 2 * approx.len() + left;
+    pad(border, line, left, need - n - left, scratch);
+    bands(low, high, f, &scratch[..need], approx, detail);
 }

@@ -48,7 +48,7 @@ fn refused(border: Border) -> Made
 }
 
 // The taps in an array, zeros behind them.
-fn held(taps: &[f64]) -> [f64; 64]
+pub fn held(taps: &[f64]) -> [f64; 64]
     requires { ⌜ length (now taps) ≤ 64 ⌝ }
     ensures { λ r. ⌜ r ≡ written (at (now (taps .entry))) (length (now (taps .entry))) zeros ⌝ }
 {
@@ -69,7 +69,7 @@ fn signed(j: usize, x: f64) -> f64
 }
 
 // The high taps of the mirror rule.
-fn low_pass_to_high(low: &[f64]) -> [f64; 64]
+pub fn low_pass_to_high(low: &[f64]) -> [f64; 64]
     requires { ⌜ length (now low) ≤ 64 ⌝ }
     ensures { λ r. ⌜ r ≡ written (mirror (now (low .entry))) (length (now (low .entry))) zeros ⌝ }
 {

@@ -2,9 +2,9 @@
 use mathlib.Core.Path.{_≡_, refl, sym, ap, _∙_, subst}
 use mathlib.Core.Bool.{Bool, true, false, cond, not, _||_}
 use mathlib.Core.List.{List, [], _∷_}
-use Prim.Native.Nat.{ℕ, zero, suc, _<_, _≤_}
+use Prim.Native.Nat.{ℕ, _<_, _≤_}
 use native.Mathlib.Omega.{arith}
-use borrow.Author.Tests.{ne-eqb}
+use borrow.Author.Tests.{ne-eqb, eqb-true, not-false}
 use lib.Dec.{lit<, eqb}
 use lib.IntN.{ℤ}
 use lib.ListN.{length, take, length-replicate}
@@ -12,25 +12,25 @@ use lib.Ieee.{Float, nan, binary64}
 use Rattle.numbers.specs.Words.{plusZero, at, tab, written, placed, whenDone}
 use Rattle.numbers.specs.Write.{length-tab, length-written, getD-tab, take-written, written-all}
 use Rattle.numbers.specs.Places.{getD-written-in, placed-front, tab-same}
-use Rattle.numbers.specs.Tests.{passed, neither, cond-true, cond-false, done-as, kept}
+use Rattle.numbers.specs.Tests.{neither, cond-true, cond-false, done-as, kept}
 use Rattle.border.specs.declared.Border.{Border}
 use Rattle.border.specs.declared.Border.the-variants.{Reflect101}
-use Rattle.bank.specs.declared.Bank.{Bank}
-use Rattle.bank.specs.declared.making.Making.{Making}
 use Rattle.bank.specs.declared.making.Making.the-variants.{Taps, Done}
 use Rattle.bank.specs.Lengths.{badTaps}
 use Rattle.bank.specs.Banks as Banks
-use Rattle.bank.specs.Tested.{good-taps}
+use Rattle.bank.specs.Tested.{GoodTaps, good-taps}
 use Rattle.analysis.specs.declared.Analysis.{Analysis}
 use Rattle.analysis.specs.Analyses as Analyses
 use Rattle.analysis.specs.Lines.{band, paddedInto}
 use Rattle.analysis.specs.Taps.{band-same}
-use Rattle.analysis.specs.Tested.{tapped as analysis-tapped}
+use Rattle.analysis.specs.Tested.{analysing, done-alone as done-analysis}
+use Rattle.analysis.specs.Works.{Analysing}
 use Rattle.synthesis.specs.declared.Synthesis.{Synthesis}
 use Rattle.synthesis.specs.Syntheses as Syntheses
 use Rattle.synthesis.specs.Lines.{synthesised}
 use Rattle.synthesis.specs.Taps.{synthesised-same}
-use Rattle.synthesis.specs.Tested.{tapped as synthesis-tapped}
+use Rattle.synthesis.specs.Tested.{joinable, done-alone as done-synthesis}
+use Rattle.synthesis.specs.Works.{Joinable}
 use Rattle.convolution.specs.declared.Convolution.{Convolution}
 use Rattle.convolution.specs.Convolutions as Convolutions
 use Rattle.isferghul.specs.Told.{Told, carriedFrom}
@@ -62,56 +62,97 @@ hidden border number values {words} e t = record {
   carried = t .carried ∙ ap (λ (v : List ℕ). carriedFrom 0 v words) (sym (cond-true (noBorder border) (border ∷ []) values e));
 }
 
+-- what is not 0 is above it
+positive : (k : ℕ) → (k ≡ 0 → ⊥) → 0 < k
+positive k n = omega (arith, n)
+
 -- 26 leaves a lent thing as it was
 left-alone : {A : Type 0} {r : ℕ} (new old : A) → r ≡ 26 → old ≡ whenDone r new old
 left-alone {A} {r} new old e = kept r (rw e (lit< tt)) new old
 
--- ---- a bank of two lists
-module _ {low high : List Float} {b : Border} {making : Making} {bank : Bank} (m : Banks.BankMade low high b making bank) where
-  -- its taps are those of the lists
-  pub taps-of : bank .taps ≡ tapsOf low high
-  taps-of =
-      ap (λ (k : Bank). k .taps) (m .made) ∙ pick (Banks.numberOf making)
-      ∙ ap (λ (a : Making). whenDone (Banks.numberOf a) (length low) 0) (m .answer)
-    where
-      pick : (k : ℕ) → (whenDone k (Banks.bankOf low (at high) b) (Banks.noBank b)) .taps ≡ whenDone k (length low) 0
-      pick zero = refl
-      pick (suc k) = refl
+-- what was told with a number is told with any name of it
+renamed : {number : ℕ} {values words words′ : List ℕ} {r r′ : ℕ} → r′ ≡ r → Told number values words r words′ → Told number values words r′ words′
+renamed e t = record { given = e ∙ t .given; carried = t .carried }
 
-  -- and if it has taps it holds those lists
-  pub holds : badTaps (bank .taps) ≡ false → bank ≡ Banks.bankOf low (at high) b
-  holds e = go (Banks.numberOf making) (m .made)
+-- ---- two tap lists
+-- lists that have taps are of one length, which is how many they have, and pass the test of a bank
+pub record Paired (low high : ℕ) : Type 0 where
+  pub count : tapsOf low high ≡ low
+  pub both : high ≡ low
+  pub good : GoodTaps low
+  pub number : 0 ≡ Banks.numberOf (Banks.answerOf low high)
+
+module _ (low high : ℕ) where
+  abbrev unfit : Bool
+  unfit = badTaps low || not (eqb high low)
+
+  counted : {t : Bool} → unfit ≡ t → tapsOf low high ≡ whenDone (Banks.numberOf (cond t Taps Done)) low 0
+  counted e = ap (λ (t : Bool). whenDone (Banks.numberOf (cond t Taps Done)) low 0) e
+
+  numbered : {t : Bool} → unfit ≡ t → Banks.numberOf (cond t Taps Done) ≡ Banks.numberOf (Banks.answerOf low high)
+  numbered e = sym (ap (λ (t : Bool). Banks.numberOf (cond t Taps Done)) e)
+
+  pub paired : (tapsOf low high ≡ 0 → ⊥) → Paired low high
+  paired n = go unfit refl
     where
-      go : (k : ℕ) → bank ≡ whenDone k (Banks.bankOf low (at high) b) (Banks.noBank b) → bank ≡ Banks.bankOf low (at high) b
-      go zero q = q
-      go (suc k) q = let z = ap (λ (x : Bank). x .taps) q in let h = good-taps (bank .taps) e .two in absurd (omega arith)
+      go : (t : Bool) → unfit ≡ t → Paired low high
+      go true e = absurd (n (counted e))
+      go false e =
+          let p = neither (badTaps low) (not (eqb high low)) e in
+          record { count = counted e; both = eqb-true high low (not-false _ (p .1)); good = good-taps low (p .0); number = numbered e }
+
+  pub unpaired : tapsOf low high ≡ 0 → 12 ≡ Banks.numberOf (Banks.answerOf low high)
+  unpaired z = go unfit refl
+    where
+      go : (t : Bool) → unfit ≡ t → 12 ≡ Banks.numberOf (Banks.answerOf low high)
+      go true e = numbered e
+      go false e =
+          let two = good-taps low (neither (badTaps low) (not (eqb high low)) e .0) .two in
+          let q = sym (counted e) ∙ z in
+          absurd (omega arith)
 
 -- an array that holds a list reads as it does
-held-reads : (l : List Float) (n j : ℕ) → j < n → at (written (at l) n Banks.zeros) j ≡ at l j
-held-reads l n j h = getD-written-in (at l) n Banks.zeros j nan h
+held-reads : (l : List Float) (n : ℕ) {array : List Float} → array ≡ written (at l) n Banks.zeros → (j : ℕ) → j < n → at array j ≡ at l j
+held-reads l n e j h = ap (λ (x : List Float). at x j) e ∙ getD-written-in (at l) n Banks.zeros j nan h
 
 -- ---- analysis
-pub analysis-told : {border : ℕ} {low high line approx detail scratch : List Float} {words words′ : List ℕ} {r : ℕ} {b : Border} {making : Making} {bank : Bank}
-    {a : Analysis} {approx′ detail′ scratch′ : List Float}
-    → noBorder border ≡ false → b ≡ borderOf border → Banks.BankMade low high b making bank → Analyses.Analysed bank line approx detail scratch a approx′ detail′ scratch′
-    → Told (Analyses.numberOf a) (Analyses.valuesOf a) words r words′
-    → AnalysisTold border low high line approx detail scratch words r approx′ detail′ scratch′ words′
-analysis-told {border} {low} {high} {line} {approx} {detail} {scratch} {b = b} {bank = bank} {a = a} e named m p t =
-    let answered : a ≡ Analyses.answerOf (tapsOf low high) (length line) (length approx) (length detail) (length scratch) =
-    p .answer ∙ ap (λ (f : ℕ). Analyses.answerOf f (length line) (length approx) (length detail) (length scratch)) (taps-of m) in
-    let held : Analyses.numberOf a ≡ 0 → bank ≡ Banks.bankOf low (at high) b = λ z. holds m (analysis-tapped (bank .taps) (length line) (length approx) (length detail) (length scratch) (p .answer) z) in
-    let F = length low in
-    record {
-      told = under border e (told-as Analyses.numberOf Analyses.valuesOf (sym answered) t);
-      approxes = done-as _ _ approx (t .given) (p .approxes)
-          (λ z. ap (λ (k : Bank). band binary64 (k .low) (k .taps) (k .border) line) (held z)
-          ∙ band-same binary64 (written (at low) F Banks.zeros) low F b line (held-reads low F) ∙ ap (λ (k : Border). band binary64 low F k line) named);
-      details = done-as _ _ detail (t .given) (p .details)
-          (λ z. ap (λ (k : Bank). band binary64 (k .high) (k .taps) (k .border) line) (held z)
-          ∙ band-same binary64 (written (at high) F Banks.zeros) high F b line (held-reads high F) ∙ ap (λ (k : Border). band binary64 high F k line) named);
-      scratched = done-as _ _ scratch (t .given) (p .scratched)
-          (λ z. ap (λ (k : Bank). paddedInto (k .taps) (k .border) line scratch) (held z) ∙ ap (λ (k : Border). paddedInto F k line scratch) named);
-    }
+module _ (border : ℕ) (low high line approx detail scratch : List Float) {words words′ : List ℕ} {a : Analysis} {f number : ℕ}
+    (taps : f ≡ tapsOf (length low) (length high)) (tested : a ≡ Analyses.answerOf f (length line) (length approx) (length detail) (length scratch))
+    (t : Told (Analyses.numberOf a) (Analyses.valuesOf a) words number words′) where
+  -- what is told of the tests' answer
+  by-lists :
+      let r = Analyses.answerOf (tapsOf (length low) (length high)) (length line) (length approx) (length detail) (length scratch) in
+      Told (Analyses.numberOf r) (Analyses.valuesOf r) words number words′
+  by-lists = told-as Analyses.numberOf Analyses.valuesOf (sym (tested ∙ ap (λ (k : ℕ). Analyses.answerOf k (length line) (length approx) (length detail) (length scratch)) taps)) t
+
+  pub analysis-ready : number ≡ 0 → Analysing f (length line) (length approx) (length detail) (length scratch)
+  analysis-ready z = analysing _ _ _ _ _ (sym tested ∙ done-analysis a (sym (t .given) ∙ z))
+
+  pub analysis-lists : number ≡ 0 → Paired (length low) (length high)
+  analysis-lists z = let two = analysis-ready z .ready .taps .two in paired _ _ (λ q. absurd (omega (arith, taps)))
+
+  pub analysis-refused : noBorder border ≡ false → (number ≡ 0 → ⊥) → AnalysisTold border low high line approx detail scratch words number approx detail scratch words′
+  analysis-refused e n = record {
+    told = under border e by-lists;
+    approxes = kept number (positive number n) _ approx;
+    details = kept number (positive number n) _ detail;
+    scratched = kept number (positive number n) _ scratch;
+  }
+
+  pub analysis-done : {b : Border} {l h approx′ detail′ scratch′ : List Float} → noBorder border ≡ false → number ≡ 0 → b ≡ borderOf border
+      → l ≡ written (at low) (length low) Banks.zeros → h ≡ written (at high) (length high) Banks.zeros
+      → approx′ ≡ band binary64 l f b line → detail′ ≡ band binary64 h f b line → scratch′ ≡ paddedInto f b line scratch
+      → AnalysisTold border low high line approx detail scratch words 0 approx′ detail′ scratch′ words′
+  analysis-done {b} {l} {h} e z named el eh ea ed es =
+      let p = analysis-lists z in
+      let F = length low in
+      record {
+        told = under border e (renamed (sym z) by-lists);
+        approxes = ea ∙ ap (λ (k : ℕ). band binary64 l k b line) (taps ∙ p .count) ∙ band-same binary64 l low F b line (held-reads low F el) ∙ ap (λ (k : Border). band binary64 low F k line) named;
+        details = ed ∙ ap (λ (k : ℕ). band binary64 h k b line) (taps ∙ p .count)
+            ∙ band-same binary64 h high F b line (held-reads high F (eh ∙ ap (λ (k : ℕ). written (at high) k Banks.zeros) (p .both))) ∙ ap (λ (k : Border). band binary64 high F k line) named;
+        scratched = es ∙ ap (λ (k : ℕ). paddedInto k b line scratch) (taps ∙ p .count) ∙ ap (λ (k : Border). paddedInto F k line scratch) named;
+      }
 
 pub analysis-hidden : (border : ℕ) (low high line approx detail scratch : List Float) {words words′ : List ℕ} {r : ℕ}
     → noBorder border ≡ true → Told 26 (border ∷ []) words r words′ → AnalysisTold border low high line approx detail scratch words r approx detail scratch words′
@@ -123,19 +164,34 @@ analysis-hidden border low high line approx detail scratch e t = record {
 }
 
 -- ---- synthesis
-pub synthesis-told : {low high approx detail out : List Float} {words words′ : List ℕ} {r : ℕ} {b : Border} {making : Making} {bank : Bank} {a : Synthesis} {out′ : List Float}
-    → Banks.BankMade low high b making bank → Syntheses.Synthesised bank approx detail out a out′
-    → Told (Syntheses.numberOf a) (Syntheses.valuesOf a) words r words′ → SynthesisTold low high approx detail out words r out′ words′
-synthesis-told {low} {high} {approx} {detail} {out} {bank = bank} {a = a} m p t =
-    let answered : a ≡ Syntheses.answerOf (tapsOf low high) (length approx) (length detail) (length out) =
-    p .answer ∙ ap (λ (f : ℕ). Syntheses.answerOf f (length approx) (length detail) (length out)) (taps-of m) in
-    let F = length low in
-    record {
-      told = told-as Syntheses.numberOf Syntheses.valuesOf (sym answered) t;
-      joined = done-as _ _ out (t .given) (p .joined)
-          (λ z. ap (λ (k : Bank). synthesised binary64 (k .taps) (k .low) (k .high) approx detail out) (holds m (synthesis-tapped (bank .taps) (length approx) (length detail) (length out) (p .answer) z))
-          ∙ synthesised-same binary64 F (written (at low) F Banks.zeros) low (written (at high) F Banks.zeros) high approx detail out (held-reads low F) (held-reads high F));
-    }
+module _ (low high approx detail out : List Float) {words words′ : List ℕ} {a : Synthesis} {f number : ℕ}
+    (taps : f ≡ tapsOf (length low) (length high)) (tested : a ≡ Syntheses.answerOf f (length approx) (length detail) (length out))
+    (t : Told (Syntheses.numberOf a) (Syntheses.valuesOf a) words number words′) where
+  of-lists :
+      let r = Syntheses.answerOf (tapsOf (length low) (length high)) (length approx) (length detail) (length out) in
+      Told (Syntheses.numberOf r) (Syntheses.valuesOf r) words number words′
+  of-lists = told-as Syntheses.numberOf Syntheses.valuesOf (sym (tested ∙ ap (λ (k : ℕ). Syntheses.answerOf k (length approx) (length detail) (length out)) taps)) t
+
+  pub synthesis-ready : number ≡ 0 → Joinable f (length approx) (length detail) (length out)
+  synthesis-ready z = joinable _ _ _ _ (sym tested ∙ done-synthesis a (sym (t .given) ∙ z))
+
+  pub synthesis-lists : number ≡ 0 → Paired (length low) (length high)
+  synthesis-lists z = let two = synthesis-ready z .two in paired _ _ (λ q. absurd (omega (arith, taps)))
+
+  pub synthesis-refused : (number ≡ 0 → ⊥) → SynthesisTold low high approx detail out words number out words′
+  synthesis-refused n = record { told = of-lists; joined = kept number (positive number n) _ out }
+
+  pub synthesis-done : {l h out′ : List Float} → number ≡ 0
+      → l ≡ written (at low) (length low) Banks.zeros → h ≡ written (at high) (length high) Banks.zeros
+      → out′ ≡ synthesised binary64 f l h approx detail out → SynthesisTold low high approx detail out words 0 out′ words′
+  synthesis-done {l} {h} z el eh eo =
+      let p = synthesis-lists z in
+      let F = length low in
+      record {
+        told = renamed (sym z) of-lists;
+        joined = eo ∙ ap (λ (k : ℕ). synthesised binary64 k l h approx detail out) (taps ∙ p .count)
+            ∙ synthesised-same binary64 F l low h high approx detail out (held-reads low F el) (held-reads high F (eh ∙ ap (λ (k : ℕ). written (at high) k Banks.zeros) (p .both)));
+      }
 
 -- ---- convolution
 pub convolution-told : {border : ℕ} {line out scratch kernel : List Float} {c c′ : ℤ} {words words′ : List ℕ} {r : ℕ} {b : Border} {a : Convolution} {out′ scratch′ : List Float}
@@ -160,50 +216,38 @@ convolution-hidden border line out scratch kernel c e t = record {
 }
 
 -- ---- the mirror rule
-module _ (low high : List Float) where
-  pub mirror-unequal : (length high ≡ length low → ⊥) → MirrorTold low high 12 high
-  mirror-unequal h = record { given = go (badTaps (length low)); mirrored = refl }
-    where
-      go : (t : Bool) → 12 ≡ Banks.numberOf (cond (t || not (eqb (length high) (length low))) Taps Done)
-      go true = refl
-      go false = simp (ne-eqb (length high) (length low) h)
+module _ (low high : List Float) {f : ℕ} (taps : f ≡ tapsOf (length low) (length high)) where
+  pub mirror-refused : f ≡ 0 → MirrorTold low high 12 high
+  mirror-refused z = record { given = unpaired _ _ (sym taps ∙ z); mirrored = refl }
 
-  -- the tests on the low taps alone, where the lists are of one length
-  tested : {r : Making} → length high ≡ length low → r ≡ Banks.answerOf (length low) (length low) → r ≡ Banks.answerOf (length low) (length high)
-  tested e q = q ∙ ap (Banks.answerOf (length low)) (sym e)
+  pub mirror-lists : (f ≡ 0 → ⊥) → Paired (length low) (length high)
+  mirror-lists n = paired _ _ (λ z. n (taps ∙ z))
 
-  pub mirror-refused : {b : Border} {making : Making} {bank : Bank} → length high ≡ length low → Banks.MirrorMade low b making bank → making ≡ Taps
-      → MirrorTold low high 12 high
-  mirror-refused e m q = record { given = ap Banks.numberOf (sym q ∙ tested e (m .answer)); mirrored = refl }
-
-  pub mirror-told : {b : Border} {making : Making} {bank : Bank} {high′ : List Float} → length high ≡ length low → Banks.MirrorMade low b making bank
-      → making ≡ Done → high′ ≡ placed (at (take (length low) (bank .high))) 0 (length (take (length low) (bank .high))) high
-      → MirrorTold low high 0 high′
-  mirror-told {b} {making} {bank} e m q h =
+  pub mirror-done : {array high′ : List Float} → (f ≡ 0 → ⊥) → array ≡ written (Banks.mirror low) (length low) Banks.zeros
+      → high′ ≡ placed (at (take f array)) 0 (length (take f array)) high → MirrorTold low high 0 high′
+  mirror-done {array} n e h =
+      let p = mirror-lists n in
       let F = length low in
       let g = Banks.mirror low in
-      let held : bank ≡ Banks.bankOf low g b = m .made ∙ ap (λ (k : Making). whenDone (Banks.numberOf k) (Banks.bankOf low g b) (Banks.noBank b)) q in
-      let front : take F (bank .high) ≡ tab g F = ap (λ (k : Bank). take F (k .high)) held ∙ take-written g F Banks.zeros in
+      let front : take f array ≡ tab g F = ap (λ (k : ℕ). take k array) (taps ∙ p .count) ∙ ap (take F) e ∙ take-written g F Banks.zeros in
       record {
-        given = ap Banks.numberOf (sym q ∙ tested e (m .answer));
+        given = p .number;
         mirrored =
             h ∙ ap (λ (l : List Float). placed (at l) 0 (length l) high) front
             ∙ ap (λ (k : ℕ). placed (at (tab g F)) 0 k high) (length-tab g F)
-            ∙ placed-front (at (tab g F)) F high ∙ ap (λ (k : ℕ). written (at (tab g F)) k high) (sym e)
+            ∙ placed-front (at (tab g F)) F high ∙ ap (λ (k : ℕ). written (at (tab g F)) k high) (sym (p .both))
             ∙ written-all (at (tab g F)) high
-            ∙ ap (tab (at (tab g F))) e
+            ∙ ap (tab (at (tab g F))) (p .both)
             ∙ tab-same (at (tab g F)) g F (λ i l. getD-tab g F i nan l);
       }
 
--- the array of a bank that is made has room for every tap
-pub mirror-room : {low : List Float} {b : Border} {making : Making} {bank : Bank} → Banks.MirrorMade low b making bank → making ≡ Done → length low ≤ length (bank .high)
-mirror-room {low} {b} {making} {bank} m q =
-    let F = length low in
-    let g = Banks.mirror low in
-    let t = passed Banks.numberOf (badTaps F || not (eqb F F)) (sym (m .answer) ∙ q) (lit< tt) refl .0 in
-    let most = good-taps F (neither (badTaps F) (not (eqb F F)) t .0) .most in
-    let all : length Banks.zeros ≡ 64 = length-replicate 64 plusZero in
-    let l = length-written g F Banks.zeros (omega arith) in
-    let held = m .made ∙ ap (λ (k : Making). whenDone (Banks.numberOf k) (Banks.bankOf low g b) (Banks.noBank b)) q in
-    let h : length (bank .high) ≡ length (written g F Banks.zeros) = ap (λ (k : Bank). length (k .high)) held in
-    omega arith
+  -- the array has room for every tap
+  pub mirror-room : {array : List Float} → (f ≡ 0 → ⊥) → array ≡ written (Banks.mirror low) (length low) Banks.zeros → f ≤ length array
+  mirror-room {array} n e =
+      let p = mirror-lists n in
+      let most = p .good .most in
+      let all : length Banks.zeros ≡ 64 = length-replicate 64 plusZero in
+      let l = length-written (Banks.mirror low) (length low) Banks.zeros (omega arith) in
+      let q : length array ≡ length (written (Banks.mirror low) (length low) Banks.zeros) = ap length e in
+      let c = taps ∙ p .count in
+      omega arith

@@ -16,9 +16,9 @@ use Rattle.convolution.specs.Convolutions as Convolutions
 use Rattle.isferghul.specs.Borders.{borderOf, numberUnder, valuesUnder}
 use Rattle.isferghul.specs.Told.{Told}
 
--- how many taps two lists have in each; none where they are odd, empty, over 64 or unequal, so that an entry refuses them by 12
-abbrev pub tapsOf : List Float → List Float → ℕ
-tapsOf low high = whenDone (Banks.numberOf (Banks.answerOf (length low) (length high))) (length low) 0
+-- how many taps lists of these lengths have in each; none where they are odd, empty, over 64 or unequal, so that an entry's tests refuse them by 12
+abbrev pub tapsOf : ℕ → ℕ → ℕ
+tapsOf low high = whenDone (Banks.numberOf (Banks.answerOf low high)) low 0
 
 pub record MirrorTold (low high : List Float) (r : ℕ) (high′ : List Float) : Type 0 where
   pub given : r ≡ Banks.numberOf (Banks.answerOf (length low) (length high))
@@ -27,7 +27,7 @@ pub record MirrorTold (low high : List Float) (r : ℕ) (high′ : List Float) :
 pub record AnalysisTold (border : ℕ) (low high line approx detail scratch : List Float) (words : List ℕ)
     (r : ℕ) (approx′ detail′ scratch′ : List Float) (words′ : List ℕ) : Type 0 where
   pub told :
-      let a = Analyses.answerOf (tapsOf low high) (length line) (length approx) (length detail) (length scratch) in
+      let a = Analyses.answerOf (tapsOf (length low) (length high)) (length line) (length approx) (length detail) (length scratch) in
       Told (numberUnder border (Analyses.numberOf a)) (valuesUnder border (Analyses.valuesOf a)) words r words′
   pub approxes : approx′ ≡ whenDone r (band binary64 low (length low) (borderOf border) line) approx
   pub details : detail′ ≡ whenDone r (band binary64 high (length low) (borderOf border) line) detail
@@ -35,7 +35,7 @@ pub record AnalysisTold (border : ℕ) (low high line approx detail scratch : Li
 
 pub record SynthesisTold (low high approx detail out : List Float) (words : List ℕ) (r : ℕ) (out′ : List Float) (words′ : List ℕ) : Type 0 where
   pub told :
-      let a = Syntheses.answerOf (tapsOf low high) (length approx) (length detail) (length out) in
+      let a = Syntheses.answerOf (tapsOf (length low) (length high)) (length approx) (length detail) (length out) in
       Told (Syntheses.numberOf a) (Syntheses.valuesOf a) words r words′
   pub joined : out′ ≡ whenDone r (synthesised binary64 (length low) low high approx detail out) out
 

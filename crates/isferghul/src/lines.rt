@@ -1,13 +1,15 @@
-// One line, for C. Taps that make no bank leave it without taps, which the entries refuse by 12.
+// One line, for C: the entries' tests and work on the caller's own tap lists, since a bank by value is two kilobytes of copies a call.
 ghost use Rattle.isferghul.specs.Lines.{AnalysisTold, SynthesisTold, ConvolutionTold};
 use crate::borders::border_of;
 use crate::borders::no_border;
+use crate::taps::taps_of;
 use crate::told;
-use analysis::analyse;
-use bank::making::bank;
-use border::Border;
+use analysis::analysis_answer;
+use analysis::work::line_bands;
+use bank::making::held;
 use convolution::convolve;
-use synthesis::synthesise;
+use synthesis::synthesis_answer;
+use synthesis::work::join;
 
 #[no_mangle]
 pub extern "C" fn isferghul_analyse(
@@ -26,8 +28,16 @@ pub extern "C" fn isferghul_analyse(
     if no_border(border) {
         return told::one(26, border, carried);
     }
-    let made = bank(low, high, border_of(border));
-    told::analysis(analyse(made.bank, line, approx, detail, scratch), carried)
+    let f = taps_of(low.len(), high.len());
+    let answer = analysis_answer(f, line.len(), approx.len(), detail.len(), scratch.len());
+    let number = told::analysis(answer, carried);
+    if number != 0 {
+        return number;
+    }
+    let l = held(low);
+    let h = held(high);
+    line_bands(&l, &h, f, border_of(border), line, approx, detail, scratch);
+    0
 }
 
 // No border: synthesis reads none.
@@ -42,8 +52,16 @@ pub extern "C" fn isferghul_synthesise(
 ) -> u64
     ensures { λ r. ⌜ SynthesisTold (now (low .entry)) (now (high .entry)) (now (approx .entry)) (now (detail .entry)) (now (out .entry)) (now (carried .entry)) r (now (out .exit)) (now (carried .exit)) ⌝ }
 {
-    let made = bank(low, high, Border::Clamp);
-    told::synthesis(synthesise(made.bank, approx, detail, out), carried)
+    let f = taps_of(low.len(), high.len());
+    let answer = synthesis_answer(f, approx.len(), detail.len(), out.len());
+    let number = told::synthesis(answer, carried);
+    if number != 0 {
+        return number;
+    }
+    let l = held(low);
+    let h = held(high);
+    join(&l, &h, f, approx, detail, out);
+    0
 }
 
 #[no_mangle]

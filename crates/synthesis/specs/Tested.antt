@@ -1,23 +1,27 @@
 -- Laws of the tests: where an answer is done every test passed, which gives the work what it asks for.
 use mathlib.Core.Path.{_≡_, refl, sym}
 use Rattle.synthesis.specs.declared.Synthesis.{Synthesis}
-use Rattle.synthesis.specs.declared.Synthesis.the-variants.{Done}
+use Rattle.synthesis.specs.declared.Synthesis.the-variants.{Done, ApproxDetailsNotMatches, OutputSizeIsNotValid, ZeroedBaseSize, Limit, Taps}
 use Rattle.synthesis.specs.Syntheses.{answerOf, numberOf}
 use Prim.Native.Nat.{ℕ, _*_, _+_}
 use Rattle.numbers.specs.Tests.{neither, passed}
 use Rattle.numbers.specs.Words.{longest}
 use borrow.Author.Tests.{eqb-true, ltb-false, not-false, leb-false}
 use lib.Dec.{eqb, ltb, leb, lit<}
-use mathlib.Core.Bool.{_||_, false, not}
+use mathlib.Core.Bool.{_||_, not}
 use native.Mathlib.Omega.{arith}
 use Rattle.synthesis.specs.Works.{Joinable}
 use Rattle.bank.specs.Lengths.{badTaps, lineLength}
 use Rattle.bank.specs.Tested.{good-taps}
 
--- what is done has taps
-pub tapped : (f a d o : ℕ) {r : Synthesis} → r ≡ answerOf f a d o → numberOf r ≡ 0 → badTaps f ≡ false
-unfolding answerOf
-tapped f a d o e z = passed numberOf (badTaps f) (sym e) (lit< tt) z .0
+-- 0 is the number of done alone
+pub done-alone : (r : Synthesis) → numberOf r ≡ 0 → r ≡ Done
+done-alone Done e = refl
+done-alone (ApproxDetailsNotMatches a d) e = absurd (omega arith)
+done-alone (OutputSizeIsNotValid have need) e = absurd (omega arith)
+done-alone ZeroedBaseSize e = absurd (omega arith)
+done-alone Limit e = absurd (omega arith)
+done-alone Taps e = absurd (omega arith)
 
 pub joinable : (f a d o : ℕ) → answerOf f a d o ≡ Done → Joinable f a d o
 unfolding answerOf

@@ -1,6 +1,9 @@
--- `isferghul_analyse` meets its contract: without a border nothing is called; with one, the entry's promise over the bank of these taps is the promise over the lists.
-use Rattle.isferghul.specs.Alike.{analysis-told, analysis-hidden}
+-- `isferghul_analyse` meets its contract: without a border nothing is done; a refusal is told; else every test passed, and the work over arrays that hold the lists is over the lists.
+use Rattle.isferghul.specs.Alike.{Paired, analysis-hidden, analysis-ready, analysis-lists, analysis-refused, analysis-done}
+use denote.Ref.{now}
+use lib.ListN.{length}
 use mathlib.Core.Path.{sym, _∙_}
+use native.Mathlib.Omega.{arith}
 use borrow.Author.Needs.{needs}
 use Rattle.isferghul.proofs.lines.isferghul_analyse.Statement.{statement}
 use Rattle.isferghul.proofs.lines.isferghul_analyse.Tie as tie
@@ -12,19 +15,35 @@ one-requires : tie.Need-one-requires
 one-requires c κs = search needs
 
 returns : tie.Need-returns
-returns c = let n = c .before .before .before in analysis-hidden _ _ _ _ _ _ _ (sym (n .no-border .ensures) ∙ c .before .before .if1 .taken) (c .one .ensures)
+returns c = analysis-hidden _ _ _ _ _ _ _ (sym (c .before .before .before .no-border .ensures) ∙ c .before .before .if1 .taken) (c .one .ensures)
+
+taps-of-requires : tie.Need-taps-of-requires
+taps-of-requires c κs = search needs
+
+analysis-answer-requires : tie.Need-analysis-answer-requires
+analysis-answer-requires c κs = search needs
+
+analysis-requires : tie.Need-analysis-requires
+analysis-requires c κs = search needs
+
+returns-2 : tie.Need-returns-2
+returns-2 c = let t = c .before in let b = t .before .before .before .before in analysis-refused _ _ _ _ _ _ _ (t .before .before .before .taps-of .ensures) (t .before .before .analysis-answer .ensures) (t .analysis .ensures) (sym (b .before .no-border .ensures) ∙ b .if1 .left) (c .if2 .taken)
+
+-- the lists where the tests passed
+lists : (e : tie.Else2) → let a = e .before .before .before .before .before .before .before .before .before .before .before .before .before .args in Paired (length (now (a .low))) (length (now (a .high)))
+lists e = let t = e .before in let a = t .before .before .before .before .before .before .before .before .before .before .before .before .args in analysis-lists (a .border) (now (a .low)) (now (a .high)) (now (a .line)) (now (a .approx)) (now (a .detail)) (now (a .scratch)) (t .before .before .before .taps-of .ensures) (t .before .before .analysis-answer .ensures) (t .analysis .ensures) (e .if2 .left)
+
+held-requires : tie.Need-held-requires
+held-requires c κs = lists c .good .most
+
+held-requires-2 : tie.Need-held-requires-2
+held-requires-2 c κs = let p = lists (c .before) in omega (arith, p .both, p .good .most)
 
 border-of-requires : tie.Need-border-of-requires
 border-of-requires c κs = search needs
 
-bank-requires : tie.Need-bank-requires
-bank-requires c κs = search needs
-
-analyse-requires : tie.Need-analyse-requires
-analyse-requires c κs = search needs
-
-analysis-requires : tie.Need-analysis-requires
-analysis-requires c κs = search needs
+line-bands-requires : tie.Need-line-bands-requires
+line-bands-requires c κs = let e = c .before .before .before .before .before .before .before .before in let t = e .before in let a = t .before .before .before .before .before .before .before .before .before .before .before .before .args in analysis-ready (a .border) (now (a .low)) (now (a .high)) (now (a .line)) (now (a .approx)) (now (a .detail)) (now (a .scratch)) (t .before .before .before .taps-of .ensures) (t .before .before .analysis-answer .ensures) (t .analysis .ensures) (e .if2 .left)
 
 same-length : tie.Need-same-length
 same-length c = search needs
@@ -35,8 +54,13 @@ same-length-2 c = search needs
 same-length-3 : tie.Need-same-length-3
 same-length-3 c = search needs
 
-returns-2 : tie.Need-returns-2
-returns-2 c = analysis-told (sym (c .before .before .before .before .before .before .before .before .before .before .before .before .before .before .before .no-border .ensures) ∙ c .before .before .before .before .before .before .before .before .before .before .before .before .before .before .if1 .left) (c .before .before .before .before .before .before .before .before .before .before .before .before .before .border-of .ensures) (c .before .before .before .before .before .before .before .before .before .before .before .before .bank .ensures) (c .before .before .before .before .before .before .before .before .analyse .ensures) (c .analysis .ensures)
+returns-3 : tie.Need-returns-3
+returns-3 c = let w = c .before .before .before .before .before .before in
+    let e = w .before .before .before .before .before .before .before .before .before in
+    let t = e .before in
+    let b = t .before .before .before .before in
+    analysis-done _ _ _ _ _ _ _ (t .before .before .before .taps-of .ensures) (t .before .before .analysis-answer .ensures) (t .analysis .ensures) (sym (b .before .no-border .ensures) ∙ b .if1 .left) (e .if2 .left) (w .before .before .before .before .border-of .ensures)
+    (w .before .before .before .before .before .before .before .before .held .ensures) (w .before .before .before .before .before .before .before .held2 .ensures) (w .line-bands .ensures .0) (w .line-bands .ensures .1) (w .line-bands .ensures .2)
 
 pub isferghul-analyse-spec : {M : Type 1} → statement M
 isferghul-analyse-spec =
@@ -45,11 +69,15 @@ isferghul-analyse-spec =
     no-border-requires
     one-requires
     returns
-    border-of-requires
-    bank-requires
-    analyse-requires
+    taps-of-requires
+    analysis-answer-requires
     analysis-requires
+    returns-2
+    held-requires
+    held-requires-2
+    border-of-requires
+    line-bands-requires
     same-length
     same-length-2
     same-length-3
-    returns-2)
+    returns-3)

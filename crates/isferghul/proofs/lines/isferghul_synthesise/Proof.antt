@@ -1,24 +1,54 @@
--- `isferghul_synthesise` meets its contract: the entry's promise over the bank of these taps is the promise over the lists.
-use Rattle.isferghul.specs.Alike.{synthesis-told}
+-- `isferghul_synthesise` meets its contract: a refusal is told; else every test passed, and the work over arrays that hold the lists is over the lists.
+use Rattle.isferghul.specs.Alike.{Paired, synthesis-ready, synthesis-lists, synthesis-refused, synthesis-done}
+use denote.Ref.{now}
+use lib.ListN.{length}
+use native.Mathlib.Omega.{arith}
 use borrow.Author.Needs.{needs}
 use Rattle.isferghul.proofs.lines.isferghul_synthesise.Statement.{statement}
 use Rattle.isferghul.proofs.lines.isferghul_synthesise.Tie as tie
 
-bank-requires : tie.Need-bank-requires
-bank-requires c κs = search needs
+taps-of-requires : tie.Need-taps-of-requires
+taps-of-requires c κs = search needs
 
-synthesise-requires : tie.Need-synthesise-requires
-synthesise-requires c κs = search needs
+synthesis-answer-requires : tie.Need-synthesis-answer-requires
+synthesis-answer-requires c κs = search needs
 
 synthesis-requires : tie.Need-synthesis-requires
 synthesis-requires c κs = search needs
 
+returns : tie.Need-returns
+returns c = let t = c .before in synthesis-refused _ _ _ _ _ (t .before .before .before .taps-of .ensures) (t .before .before .synthesis-answer .ensures) (t .synthesis .ensures) (c .if1 .taken)
+
+-- the lists where the tests passed
+lists : (e : tie.Else1) → let a = e .before .before .before .before .before .before .before .before .before .before .args in Paired (length (now (a .low))) (length (now (a .high)))
+lists e = let t = e .before in let a = t .before .before .before .before .before .before .before .before .before .args in synthesis-lists (now (a .low)) (now (a .high)) (now (a .approx)) (now (a .detail)) (now (a .out)) (t .before .before .before .taps-of .ensures) (t .before .before .synthesis-answer .ensures) (t .synthesis .ensures) (e .if1 .left)
+
+held-requires : tie.Need-held-requires
+held-requires c κs = lists c .good .most
+
+held-requires-2 : tie.Need-held-requires-2
+held-requires-2 c κs = let p = lists (c .before) in omega (arith, p .both, p .good .most)
+
+join-requires : tie.Need-join-requires
+join-requires c κs = let e = c .before .before .before .before .before in let t = e .before in let a = t .before .before .before .before .before .before .before .before .before .args in synthesis-ready (now (a .low)) (now (a .high)) (now (a .approx)) (now (a .detail)) (now (a .out)) (t .before .before .before .taps-of .ensures) (t .before .before .synthesis-answer .ensures) (t .synthesis .ensures) (e .if1 .left)
+
 same-length : tie.Need-same-length
 same-length c = search needs
 
-returns : tie.Need-returns
-returns c = synthesis-told (c .before .before .before .before .before .before .bank .ensures) (c .before .before .before .before .synthesise .ensures) (c .synthesis .ensures)
+returns-2 : tie.Need-returns-2
+returns-2 c = let w = c .before .before in let e = w .before .before .before .before .before .before in let t = e .before in
+    synthesis-done _ _ _ _ _ (t .before .before .before .taps-of .ensures) (t .before .before .synthesis-answer .ensures) (t .synthesis .ensures) (e .if1 .left) (w .before .before .before .before .before .held .ensures) (w .before .before .before .before .held2 .ensures) (w .join .ensures)
 
 pub isferghul-synthesise-spec : {M : Type 1} → statement M
 isferghul-synthesise-spec =
-    tie.close (tie.spec bank-requires synthesise-requires synthesis-requires same-length returns)
+    tie.close
+    (tie.spec
+    taps-of-requires
+    synthesis-answer-requires
+    synthesis-requires
+    returns
+    held-requires
+    held-requires-2
+    join-requires
+    same-length
+    returns-2)

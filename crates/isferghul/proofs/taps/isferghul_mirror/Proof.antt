@@ -1,36 +1,34 @@
--- `isferghul_mirror` meets its contract: the front of the made bank's high array is the mirror rule's taps.
-use Rattle.isferghul.specs.Alike.{mirror-unequal, mirror-refused, mirror-told, mirror-room}
+-- `isferghul_mirror` meets its contract: lists that make no bank have no taps; else the front of the array is the mirror rule's taps.
+use Rattle.isferghul.specs.Alike.{Paired, mirror-refused, mirror-lists, mirror-done, mirror-room}
 use Prim.Native.Nat.{_≤_}
 use lib.ListN.{length, take}
 use lib.Seq.{length-take-le}
 use denote.Ref.{now}
-use mathlib.Core.Path.{_≡_, sym}
+use mathlib.Core.Path.{_≡_, sym, _∙_}
 use native.Mathlib.Omega.{arith}
 use borrow.Author.Needs.{needs}
 use Rattle.isferghul.proofs.taps.isferghul_mirror.Statement.{statement}
 use Rattle.isferghul.proofs.taps.isferghul_mirror.Tie as tie
 
+taps-of-requires : tie.Need-taps-of-requires
+taps-of-requires c κs = search needs
+
 returns : tie.Need-returns
-returns c = mirror-unequal _ _ (c .if1 .taken)
+returns c = mirror-refused _ _ (c .before .taps-of .ensures) (c .if1 .taken)
 
-mirrored-requires : tie.Need-mirrored-requires
-mirrored-requires c κs = search needs
+-- the lists where there are taps
+lists : (e : tie.Else1) → let a = e .before .before .before .before .args in Paired (length (now (a .low))) (length (now (a .high)))
+lists e = let a = e .before .before .before .before .args in mirror-lists (now (a .low)) (now (a .high)) (e .before .taps-of .ensures) (e .if1 .left)
 
-enum-told : tie.Need-enum-told
-enum-told c = search needs
+-- the array has room for the taps, and its front is as long as they are many
+room : (c : tie.After-low-pass-to-high) → c .before .before .taps-of .result ≤ length (c .low-pass-to-high .result)
+room c = let a = c .before .before .before .before .before .args in mirror-room (now (a .low)) (now (a .high)) (c .before .before .taps-of .ensures) (c .before .if1 .left) (c .low-pass-to-high .ensures)
 
-enum-told-2 : tie.Need-enum-told-2
-enum-told-2 c = search needs
-
-returns-2 : tie.Need-returns-2
-returns-2 c = mirror-refused _ _ (c .before .before .before .if1 .left) (c .before .before .mirrored .ensures) (c .enum-told2 .given .1)
-
--- the array has room for the taps
-room : (c : tie.After-taps) → length (now (c .before .before .before .before .before .before .before .args .low)) ≤ length (c .before .before .before .mirrored .result .bank .high)
-room c = mirror-room (c .before .before .before .mirrored .ensures) (c .before .enum-told .given .1)
-
-front : (c : tie.After-taps) → let f = length (now (c .before .before .before .before .before .before .before .args .low)) in length (take f (c .before .before .before .mirrored .result .bank .high)) ≡ f
+front : (c : tie.After-low-pass-to-high) → let f = c .before .before .taps-of .result in length (take f (c .low-pass-to-high .result)) ≡ f
 front c = length-take-le _ _ (room c)
+
+low-pass-to-high-requires : tie.Need-low-pass-to-high-requires
+low-pass-to-high-requires c κs = lists c .good .most
 
 array-share-prefix-taps : tie.Need-array-share-prefix-taps
 array-share-prefix-taps c = room c
@@ -39,25 +37,23 @@ slice-aggregate-copy-to : tie.Need-slice-aggregate-copy-to
 slice-aggregate-copy-to c = sym (front (c .before))
 
 copy-to-requires : tie.Need-copy-to-requires
-copy-to-requires c κs = omega (arith, front (c .before .before), c .before .before .before .before .before .before .if1 .left)
+copy-to-requires c κs = let k = c .before .before in let p = lists (k .before) in omega (arith, front k, k .before .before .taps-of .ensures ∙ p .count, p .both)
 
 same-length : tie.Need-same-length
 same-length c = search needs
 
-returns-3 : tie.Need-returns-3
-returns-3 c = mirror-told _ _ (c .before .before .before .before .before .before .before .before .before .if1 .left) (c .before .before .before .before .before .before .before .before .mirrored .ensures) (c .before .before .before .before .before .before .enum-told .given .1) (c .before .before .copy-to .ensures)
+returns-2 : tie.Need-returns-2
+returns-2 c = let k = c .before .before .before .before .before in mirror-done _ _ (k .before .before .taps-of .ensures) (k .before .if1 .left) (k .low-pass-to-high .ensures) (c .before .before .copy-to .ensures)
 
 pub isferghul-mirror-spec : {M : Type 1} → statement M
 isferghul-mirror-spec =
     tie.close
     (tie.spec
+    taps-of-requires
     returns
-    mirrored-requires
-    enum-told
-    enum-told-2
-    returns-2
+    low-pass-to-high-requires
     array-share-prefix-taps
     slice-aggregate-copy-to
     copy-to-requires
     same-length
-    returns-3)
+    returns-2)
