@@ -48,7 +48,7 @@ fn refused(border: Border) -> Made
 }
 
 // The taps in an array, zeros behind them.
-pub fn held(taps: &[f64]) -> [f64; 64]
+fn held(taps: &[f64]) -> [f64; 64]
     requires { ⌜ length (now taps) ≤ 64 ⌝ }
     ensures { λ r. ⌜ r ≡ written (at (now (taps .entry))) (length (now (taps .entry))) zeros ⌝ }
 {

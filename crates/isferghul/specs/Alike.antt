@@ -111,9 +111,9 @@ module _ (low high : ℕ) where
           let q = sym (counted e) ∙ z in
           absurd (omega arith)
 
--- an array that holds a list reads as it does
-held-reads : (l : List Float) (n : ℕ) {array : List Float} → array ≡ written (at l) n Banks.zeros → (j : ℕ) → j < n → at array j ≡ at l j
-held-reads l n e j h = ap (λ (x : List Float). at x j) e ∙ getD-written-in (at l) n Banks.zeros j nan h
+-- an array that a list was copied to reads as the list does
+copied : (l : List Float) (n : ℕ) (old : List Float) {array : List Float} → array ≡ placed (at l) 0 (length l) old → length l ≡ n → (j : ℕ) → j < n → at array j ≡ at l j
+copied l n old e q j h = ap (λ (x : List Float). at x j) (e ∙ placed-front (at l) (length l) old) ∙ getD-written-in (at l) (length l) old j nan (omega (arith, q))
 
 -- ---- analysis
 module _ (border : ℕ) (low high line approx detail scratch : List Float) {words words′ : List ℕ} {a : Analysis} {f number : ℕ}
@@ -139,18 +139,18 @@ module _ (border : ℕ) (low high line approx detail scratch : List Float) {word
     scratched = kept number (positive number n) _ scratch;
   }
 
-  pub analysis-done : {b : Border} {l h approx′ detail′ scratch′ : List Float} → noBorder border ≡ false → number ≡ 0 → b ≡ borderOf border
-      → l ≡ written (at low) (length low) Banks.zeros → h ≡ written (at high) (length high) Banks.zeros
+  pub analysis-done : {b : Border} {l h approx′ detail′ scratch′ : List Float} (zeros : List Float) → noBorder border ≡ false → number ≡ 0 → b ≡ borderOf border
+      → l ≡ placed (at low) 0 (length low) zeros → h ≡ placed (at high) 0 (length high) zeros
       → approx′ ≡ band binary64 l f b line → detail′ ≡ band binary64 h f b line → scratch′ ≡ paddedInto f b line scratch
       → AnalysisTold border low high line approx detail scratch words 0 approx′ detail′ scratch′ words′
-  analysis-done {b} {l} {h} e z named el eh ea ed es =
+  analysis-done {b} {l} {h} zeros e z named el eh ea ed es =
       let p = analysis-lists z in
       let F = length low in
       record {
         told = under border e (renamed (sym z) by-lists);
-        approxes = ea ∙ ap (λ (k : ℕ). band binary64 l k b line) (taps ∙ p .count) ∙ band-same binary64 l low F b line (held-reads low F el) ∙ ap (λ (k : Border). band binary64 low F k line) named;
+        approxes = ea ∙ ap (λ (k : ℕ). band binary64 l k b line) (taps ∙ p .count) ∙ band-same binary64 l low F b line (copied low F zeros el refl) ∙ ap (λ (k : Border). band binary64 low F k line) named;
         details = ed ∙ ap (λ (k : ℕ). band binary64 h k b line) (taps ∙ p .count)
-            ∙ band-same binary64 h high F b line (held-reads high F (eh ∙ ap (λ (k : ℕ). written (at high) k Banks.zeros) (p .both))) ∙ ap (λ (k : Border). band binary64 high F k line) named;
+            ∙ band-same binary64 h high F b line (copied high F zeros eh (p .both)) ∙ ap (λ (k : Border). band binary64 high F k line) named;
         scratched = es ∙ ap (λ (k : ℕ). paddedInto k b line scratch) (taps ∙ p .count) ∙ ap (λ (k : Border). paddedInto F k line scratch) named;
       }
 
@@ -181,16 +181,16 @@ module _ (low high approx detail out : List Float) {words words′ : List ℕ} {
   pub synthesis-refused : (number ≡ 0 → ⊥) → SynthesisTold low high approx detail out words number out words′
   synthesis-refused n = record { told = of-lists; joined = kept number (positive number n) _ out }
 
-  pub synthesis-done : {l h out′ : List Float} → number ≡ 0
-      → l ≡ written (at low) (length low) Banks.zeros → h ≡ written (at high) (length high) Banks.zeros
+  pub synthesis-done : {l h out′ : List Float} (zeros : List Float) → number ≡ 0
+      → l ≡ placed (at low) 0 (length low) zeros → h ≡ placed (at high) 0 (length high) zeros
       → out′ ≡ synthesised binary64 f l h approx detail out → SynthesisTold low high approx detail out words 0 out′ words′
-  synthesis-done {l} {h} z el eh eo =
+  synthesis-done {l} {h} zeros z el eh eo =
       let p = synthesis-lists z in
       let F = length low in
       record {
         told = renamed (sym z) of-lists;
         joined = eo ∙ ap (λ (k : ℕ). synthesised binary64 k l h approx detail out) (taps ∙ p .count)
-            ∙ synthesised-same binary64 F l low h high approx detail out (held-reads low F el) (held-reads high F (eh ∙ ap (λ (k : ℕ). written (at high) k Banks.zeros) (p .both)));
+            ∙ synthesised-same binary64 F l low h high approx detail out (copied low F zeros el refl) (copied high F zeros eh (p .both));
       }
 
 -- ---- convolution

@@ -1,4 +1,4 @@
-// One line, for C: the entries' tests and work on the caller's own tap lists, since a bank by value is two kilobytes of copies a call.
+// One line, for C: the entries' tests and work over the caller's own taps, so that no bank is made and copied in a call.
 ghost use Rattle.isferghul.specs.Lines.{AnalysisTold, SynthesisTold, ConvolutionTold};
 use crate::borders::border_of;
 use crate::borders::no_border;
@@ -6,7 +6,7 @@ use crate::taps::taps_of;
 use crate::told;
 use analysis::analysis_answer;
 use analysis::work::line_bands;
-use bank::making::held;
+use border::pad::copy_to;
 use convolution::convolve;
 use synthesis::synthesis_answer;
 use synthesis::work::join;
@@ -34,8 +34,10 @@ pub extern "C" fn isferghul_analyse(
     if number != 0 {
         return number;
     }
-    let l = held(low);
-    let h = held(high);
+    let mut l = [0.0f64; 64];
+    let mut h = [0.0f64; 64];
+    copy_to(low, &mut l, 0);
+    copy_to(high, &mut h, 0);
     line_bands(&l, &h, f, border_of(border), line, approx, detail, scratch);
     0
 }
@@ -58,8 +60,10 @@ pub extern "C" fn isferghul_synthesise(
     if number != 0 {
         return number;
     }
-    let l = held(low);
-    let h = held(high);
+    let mut l = [0.0f64; 64];
+    let mut h = [0.0f64; 64];
+    copy_to(low, &mut l, 0);
+    copy_to(high, &mut h, 0);
     join(&l, &h, f, approx, detail, out);
     0
 }
