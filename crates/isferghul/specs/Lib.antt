@@ -1,7 +1,10 @@
--- The interface for C. Definitions: Told, Borders, then what each export promises: Sizes, Lines. Laws: Alike, Unique.
+-- The interface for C. Definitions: Told, Borders, then what each export promises: Sizes, Lines. Laws: Telling, Pairs, Calls, Mirrors, Unique.
 pub mod Told
 pub mod Borders
 pub mod Sizes
 pub mod Lines
-pub mod Alike
+pub mod Telling
+pub mod Pairs
+pub mod Calls
+pub mod Mirrors
 pub mod Unique

@@ -1,6 +1,6 @@
 -- `border_of` meets its contract: each arm is a test of the definition.
 use Rattle.isferghul.specs.Borders.{borderOf}
-use Rattle.isferghul.specs.Alike.{border-rest}
+use Rattle.isferghul.specs.Telling.{border-rest}
 use mathlib.Core.Path.{sym, ap}
 use Rattle.isferghul.proofs.borders.border_of.Statement.{statement}
 use Rattle.isferghul.proofs.borders.border_of.Tie as tie

@@ -1,5 +1,6 @@
 -- `isferghul_analyse` meets its contract: without a border nothing is done; a refusal is told; else every test passed, and the work over arrays that the lists were copied to is over the lists.
-use Rattle.isferghul.specs.Alike.{Paired, analysis-hidden, analysis-ready, analysis-lists, analysis-refused, analysis-done}
+use Rattle.isferghul.specs.Pairs.{Paired}
+use Rattle.isferghul.specs.Calls.{analysis-hidden, analysis-ready, analysis-lists, analysis-refused, analysis-done}
 use denote.Ref.{now}
 use lib.ListN.{length}
 use mathlib.Core.Path.{sym, _∙_}

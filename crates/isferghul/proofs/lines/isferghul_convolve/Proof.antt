@@ -1,5 +1,5 @@
 -- `isferghul_convolve` meets its contract: without a border nothing is called; with one, the entry's answer is told.
-use Rattle.isferghul.specs.Alike.{convolution-told, convolution-hidden}
+use Rattle.isferghul.specs.Calls.{convolution-told, convolution-hidden}
 use mathlib.Core.Path.{sym, _∙_}
 use Rattle.convolution.specs.Places.{back}
 use borrow.Author.Needs.{needs}

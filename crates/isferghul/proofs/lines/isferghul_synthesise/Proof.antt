@@ -1,5 +1,6 @@
 -- `isferghul_synthesise` meets its contract: a refusal is told; else every test passed, and the work over arrays that the lists were copied to is over the lists.
-use Rattle.isferghul.specs.Alike.{Paired, synthesis-ready, synthesis-lists, synthesis-refused, synthesis-done}
+use Rattle.isferghul.specs.Pairs.{Paired}
+use Rattle.isferghul.specs.Calls.{synthesis-ready, synthesis-lists, synthesis-refused, synthesis-done}
 use denote.Ref.{now}
 use lib.ListN.{length}
 use native.Mathlib.Omega.{arith}

@@ -1,5 +1,6 @@
 -- `isferghul_mirror` meets its contract: lists that make no bank have no taps; else the front of the array is the mirror rule's taps.
-use Rattle.isferghul.specs.Alike.{Paired, mirror-refused, mirror-lists, mirror-done, mirror-room}
+use Rattle.isferghul.specs.Pairs.{Paired}
+use Rattle.isferghul.specs.Mirrors.{mirror-refused, mirror-lists, mirror-done, mirror-room}
 use Prim.Native.Nat.{_≤_}
 use lib.ListN.{length, take}
 use lib.Seq.{length-take-le}

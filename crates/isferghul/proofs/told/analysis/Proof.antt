@@ -1,7 +1,7 @@
 -- `told::analysis` meets its contract: each arm tells its own number, and its values where it has any.
 use borrow.Author.Needs.{needs}
 use Rattle.analysis.specs.Analyses.{numberOf, valuesOf}
-use Rattle.isferghul.specs.Alike.{told-as}
+use Rattle.isferghul.specs.Telling.{told-as}
 use Rattle.isferghul.proofs.told.analysis.Statement.{statement}
 use Rattle.isferghul.proofs.told.analysis.Tie as tie
 
