@@ -13,8 +13,8 @@ use mathlib.Core.Bool.{not}
 use native.Mathlib.Omega.{arith}
 use Rattle.border.specs.declared.Border.{Border}
 use Rattle.border.specs.Reach.{Paddable}
-use Rattle.bank.specs.Lengths.{badTaps, paddedLength, pairs}
-use Rattle.bank.specs.Tested.{Analysable, good-taps}
+use Rattle.bank.specs.Lengths.{badTaps, paddedLength, pairs, Analysable}
+use Rattle.bank.specs.Tested.{good-taps}
 
 pub analysing : (f n a d s : ℕ) → answerOf f n a d s ≡ Done → Analysing f n a d s
 unfolding answerOf

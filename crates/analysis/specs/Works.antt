@@ -4,8 +4,7 @@ use mathlib.Core.List.{List}
 use Prim.Native.Nat.{ℕ, _+_, _*_, _≤_}
 use lib.Ieee.{Float, Format}
 use Rattle.numbers.specs.Words.{at}
-use Rattle.bank.specs.Lengths.{pairs, paddedLength}
-use Rattle.bank.specs.Tested.{Analysable}
+use Rattle.bank.specs.Lengths.{pairs, paddedLength, Analysable}
 use Rattle.analysis.specs.Sums.{dot}
 
 -- the sum of k taps over a line that holds the padded samples, from a place of it on

@@ -1,4 +1,4 @@
-// Both bands of a padded line, for entries to share: sizes have been tested.
+// Both bands of a line, padded or to be padded, for entries to share: sizes have been tested.
 ghost use mathlib.Core.Path.{_≡_};
 ghost use Prim.Native.Nat.{_*_};
 ghost use lib.ListN.{length};

@@ -1,7 +1,9 @@
 -- The lengths of document 01, for n samples, m pairs and f taps. Definitions only.
+use mathlib.Core.Path.{_≡_}
 use mathlib.Core.Bool.{Bool, not, _||_}
-use Prim.Native.Nat.{ℕ, _+_, _-_, _*_, _/_, _%_}
+use Prim.Native.Nat.{ℕ, _+_, _-_, _*_, _/_, _%_, _≤_}
 use lib.Dec.{ltb, eqb}
+use Rattle.numbers.specs.Words.{longest}
 
 -- tap lists that are odd, empty or over 64
 unfoldable pub badTaps : ℕ → Bool
@@ -22,3 +24,15 @@ paddedLength n f = 2 * pairs n f + f - 2
 -- the places that synthesis gives
 abbrev pub lineLength : ℕ → ℕ → ℕ
 lineLength m f = 2 * m + 2 - f
+
+-- taps that are neither odd, none nor over 64
+pub record GoodTaps (f : ℕ) : Type 0 where
+  pub even : f % 2 ≡ 0
+  pub two : 2 ≤ f
+  pub most : f ≤ 64
+
+-- n samples and f taps past 12, 11 and 1
+pub record Analysable (n f : ℕ) : Type 0 where
+  pub taps : GoodTaps f
+  pub limit : n ≤ longest
+  pub enough : f ≤ n

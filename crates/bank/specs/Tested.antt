@@ -8,7 +8,7 @@ use Rattle.bank.specs.declared.making.Making.the-variants as making
 use Rattle.bank.specs.Banks as Banks
 use Rattle.bank.specs.Sizes as Sizes
 use Prim.Native.Nat.{_%_, _<_, _≤_, suc, zero, ℕ, _-_, _/_}
-use Rattle.bank.specs.Lengths.{badTaps, wholePad}
+use Rattle.bank.specs.Lengths.{badTaps, wholePad, GoodTaps, Analysable}
 use Rattle.numbers.specs.Tests.{neither, passed}
 use Rattle.numbers.specs.Words.{longest, whenDone}
 use borrow.Author.Tests.{eqb-false, eqb-true, ltb-false, not-false}
@@ -18,12 +18,6 @@ use native.Mathlib.Omega.{arith}
 use Rattle.border.specs.declared.Border.{Border}
 use lib.Ieee.{Float}
 use mathlib.Core.List.{List}
-
--- taps that are neither odd, none nor over 64
-pub record GoodTaps (f : ℕ) : Type 0 where
-  pub even : f % 2 ≡ 0
-  pub two : 2 ≤ f
-  pub most : f ≤ 64
 
 pub good-taps : (f : ℕ) → badTaps f ≡ false → GoodTaps f
 unfolding badTaps
@@ -39,11 +33,6 @@ good-taps f e =
     some (suc (suc f)) h z = omega arith
 
 -- ---- n samples and f taps past 12, 11 and 1
-pub record Analysable (n f : ℕ) : Type 0 where
-  pub taps : GoodTaps f
-  pub limit : n ≤ longest
-  pub enough : f ≤ n
-
 pub record Sized (n f l m : ℕ) : Type 0 where
   pub ready : Analysable n f
   pub given : m ≡ l

@@ -12,9 +12,9 @@ use Rattle.numbers.specs.Words.{at, placed, whenDone}
 use Rattle.numbers.specs.Places.{getD-written-in, placed-front}
 use Rattle.numbers.specs.Tests.{neither}
 use Rattle.bank.specs.declared.making.Making.the-variants.{Taps, Done}
-use Rattle.bank.specs.Lengths.{badTaps}
+use Rattle.bank.specs.Lengths.{badTaps, GoodTaps}
 use Rattle.bank.specs.Banks as Banks
-use Rattle.bank.specs.Tested.{GoodTaps, good-taps}
+use Rattle.bank.specs.Tested.{good-taps}
 use Rattle.isferghul.specs.Lines.{tapsOf}
 
 -- lists that have taps are of one length, which is how many they have, and pass the test of a bank

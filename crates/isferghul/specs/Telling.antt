@@ -1,4 +1,4 @@
--- Laws of telling: what is told goes by no name of an answer or of its number, and 26 hides an answer or does not.
+-- Laws of telling: what is told of an answer holds by any name of it and of its number, and 26 hides an answer or does not.
 use mathlib.Core.Path.{_≡_, sym, ap, _∙_}
 use mathlib.Core.Bool.{true, false}
 use mathlib.Core.List.{List, [], _∷_}

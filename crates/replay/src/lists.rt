@@ -90,9 +90,11 @@ pub fn answer_length(words: &[u64], at: usize) -> usize
     2 + least(word(words, at, 1) as usize, 2)
 }
 
-// The words that a call is lent before it.
+// What a word holds before a call.
+const BLANK: usize = 81985529216486895;
+
 pub fn blank() -> [usize; 2] {
-    [81985529216486895; 2]
+    [BLANK; 2]
 }
 
 // Whether a number and what it carries are as the words say; a word that carries nothing is as it was.
@@ -101,16 +103,15 @@ pub fn told(words: &[u64], at: usize, number: u64, carried: &[usize; 2]) -> bool
         return false;
     }
     let values = word(words, at, 1);
-    let blank = 81985529216486895usize;
     let first = if 0 < values {
         word(words, at, 2) as usize
     } else {
-        blank
+        BLANK
     };
     let second = if 1 < values {
         word(words, at, 3) as usize
     } else {
-        blank
+        BLANK
     };
     carried[0] == first && carried[1] == second
 }
