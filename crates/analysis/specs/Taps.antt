@@ -7,7 +7,7 @@ use native.Mathlib.Omega.{arith}
 use lib.ListN.{length, take}
 use lib.Ieee.{Float, nan, Format, add, mul, binary64, ofBits}
 use Rattle.numbers.specs.Words.{at, tab, written}
-use Rattle.numbers.specs.Write.{take-written, getD-tab}
+use Rattle.numbers.specs.Write.{take-written, length-tab, getD-tab}
 use Rattle.numbers.specs.Places.{tab-same}
 use Rattle.numbers.specs.Tests.{literal-zero}
 use Rattle.border.specs.declared.Border.{Border}
@@ -47,6 +47,10 @@ unfolding band analysed
 band-same f taps taps′ F b s g =
     tab-same (analysed f F (at taps) (paddedAt F b s)) (analysed f F (at taps′) (paddedAt F b s)) (pairs (length s) F)
     (λ i l. dot-same f (at taps) (at taps′) (λ j. paddedAt F b s (2 * i + j)) (λ j. paddedAt F b s (2 * i + j)) F g (λ j k. refl))
+
+pub length-band : (f : Format) (taps : List Float) (F : ℕ) (b : Border) (s : List Float) → length (band f taps F b s) ≡ pairs (length s) F
+unfolding band
+length-band f taps F b s = length-tab (analysed f F (at taps) (paddedAt F b s)) (pairs (length s) F)
 
 -- the bands of the padded line at the front of the scratch are the bands of the samples
 pub of-samples : (f : Format) (b : Border) (taps s line scratch : List Float) (F N : ℕ)

@@ -7,14 +7,14 @@ use Rattle.analysis.specs.Works.{Analysing}
 use Prim.Native.Nat.{ℕ, _*_, _+_, _-_}
 use Rattle.numbers.specs.Tests.{passed}
 use Rattle.numbers.specs.Words.{longest}
-use borrow.Author.Tests.{eqb-true, ltb-false, not-false}
+use borrow.Author.Tests.{eqb-true, ltb-false, not-false, eq-eqb, le-ltb}
 use lib.Dec.{eqb, ltb, lit<}
 use mathlib.Core.Bool.{not}
 use native.Mathlib.Omega.{arith}
 use Rattle.border.specs.declared.Border.{Border}
 use Rattle.border.specs.Reach.{Paddable}
 use Rattle.bank.specs.Lengths.{badTaps, paddedLength, pairs, Analysable}
-use Rattle.bank.specs.Tested.{good-taps}
+use Rattle.bank.specs.Tested.{good-taps, taps-pass}
 
 pub analysing : (f n a d s : ℕ) → answerOf f n a d s ≡ Done → Analysing f n a d s
 unfolding answerOf
@@ -31,6 +31,13 @@ analysing f n a d s e =
       detailed = eqb-true d (pairs n f) (not-false _ (p5 .0));
       room = ltb-false s (paddedLength n f) (p6 .0);
     }
+
+-- and where it has that, the answer is done
+pub analysed-done : (f n a d s : ℕ) → Analysing f n a d s → answerOf f n a d s ≡ Done
+unfolding answerOf
+analysed-done f n a d s p =
+    simp (taps-pass f (p .ready .taps), le-ltb longest n (p .ready .limit), le-ltb n f (p .ready .enough), eq-eqb a (pairs n f) (p .approxed),
+    eq-eqb d (pairs n f) (p .detailed), le-ltb s (paddedLength n f) (p .room))
 
 -- 0 is the number of done alone
 pub done-alone : (r : Analysis) → numberOf r ≡ 0 → r ≡ Done

@@ -11,12 +11,13 @@ use Prim.Native.Nat.{_%_, _<_, _≤_, suc, zero, ℕ, _-_, _/_}
 use Rattle.bank.specs.Lengths.{badTaps, wholePad, GoodTaps, Analysable}
 use Rattle.numbers.specs.Tests.{neither, passed}
 use Rattle.numbers.specs.Words.{longest, whenDone}
-use borrow.Author.Tests.{eqb-false, eqb-true, ltb-false, not-false}
+use borrow.Author.Tests.{eqb-false, eqb-true, ltb-false, not-false, eq-eqb, ne-eqb, le-ltb}
 use lib.Dec.{eqb, ltb, lit<}
 use mathlib.Core.Bool.{_||_, false, not, Bool, cond, true}
 use native.Mathlib.Omega.{arith}
 use Rattle.border.specs.declared.Border.{Border}
 use lib.Ieee.{Float}
+use mathlib.Core.Logic.{_≢_}
 use mathlib.Core.List.{List}
 
 pub good-taps : (f : ℕ) → badTaps f ≡ false → GoodTaps f
@@ -31,6 +32,12 @@ good-taps f e =
     some zero h z = absurd (z refl)
     some (suc zero) h z = absurd (omega arith)
     some (suc (suc f)) h z = omega arith
+
+pub taps-pass : (f : ℕ) → GoodTaps f → badTaps f ≡ false
+unfolding badTaps
+taps-pass f g =
+    let n : f ≢ 0 = omega (arith, g .two) in
+    simp (eq-eqb (f % 2) 0 (g .even), ne-eqb f 0 n, le-ltb 64 f (g .most))
 
 -- ---- n samples and f taps past 12, 11 and 1
 pub record Sized (n f l m : ℕ) : Type 0 where

@@ -107,6 +107,14 @@ padded-line z b s left k h =
     let e : left + k - left ≡ k = omega arith in
     simp (le-ltb (left + k) left (omega arith), e, lt-ltb k (length s) h)
 
+-- from the line on, a place is the same however many stand in front
+pub padded-from : {A : Type 0} (z : A) (b : Border) (s : List A) (left k : ℕ) → padded z b s left (left + k) ≡ padded z b s 0 k
+unfolding padded
+padded-from z b s left k =
+    let e : left + k - left ≡ k = omega arith in
+    let o : k - 0 ≡ k = omega arith in
+    simp (le-ltb (left + k) left (omega arith), le-ltb k 0 (omega arith), e, o)
+
 pub sample-in : (p : Source) (k n : ℕ) → p ≡ Sample k → Within p n → k < n
 sample-in p k n e w = subst (λ (x : Source). Within x n) e w
 

@@ -13,6 +13,18 @@ pub passed : {A : Type 0} (number : A → ℕ) (t : Bool) {a b d : A} → cond t
 passed number true e h k = let q = ap number e in absurd (omega arith)
 passed number false e h k = (refl, e)
 
+-- an answer that is not done has a number above 0, where 0 is the number of done alone
+pub refused : {A : Type 0} (number : A → ℕ) {done : A} → ((r : A) → number r ≡ 0 → r ≡ done) → (r : A) → (r ≡ done → ⊥) → 0 < number r
+refused number alone r n = go (number r) refl
+  where
+    go : (k : ℕ) → number r ≡ k → 0 < k
+    go zero e = absurd (n (alone r e))
+    go (suc k) e = omega arith
+
+-- an answer with another tag than done's, which is the first, is not done
+pub other : {A : Type 0} (tag : A → ℕ) {done : A} (r : A) → tag done ≡ 0 → 0 < tag r → r ≡ done → ⊥
+other tag r z h e = let q = ap tag e in absurd (omega arith)
+
 -- neither of two tests failed
 pub neither : (s t : Bool) → (s || t) ≡ false → (s ≡ false) × (t ≡ false)
 neither true t e = absurd (true≢false e)
@@ -64,6 +76,10 @@ done-as {A} {number} {r} {x} new new′ old e q h = q ∙ alike number h ∙ ap 
     alike : (number : ℕ) → (number ≡ 0 → new ≡ new′) → whenDone number new old ≡ whenDone number new′ old
     alike zero h = h refl
     alike (suc number) h = refl
+
+-- where it is done a lent thing is new
+pub renewed : {A : Type 0} {number : ℕ} {x : A} (new old : A) → number ≡ 0 → x ≡ whenDone number new old → x ≡ new
+renewed new old e q = q ∙ ap (λ (k : ℕ). whenDone k new old) e
 
 -- on a refusal a lent thing is as it was
 pub kept : {A : Type 0} (number : ℕ) → 0 < number → (new old : A) → old ≡ whenDone number new old

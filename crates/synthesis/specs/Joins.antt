@@ -6,7 +6,7 @@ use Prim.Native.Nat.{ℕ, zero, suc, _+_, _-_, _*_, _≤_, _<_, min}
 use native.Mathlib.Numerals.{add-one}
 use native.Mathlib.Decide.{decLt}
 use native.Mathlib.Omega.{arith}
-use borrow.Author.Tests.{le-leb, lt-leb, lt-ltb, le-ltb}
+use borrow.Author.Tests.{le-leb, lt-leb}
 use lib.Dec.{leb}
 use lib.ListN.{length, take, drop}
 use lib.Seq.{ext-getD}
@@ -17,18 +17,10 @@ use Rattle.numbers.specs.Write.{length-tab, getD-tab}
 use Rattle.numbers.specs.Places.{getD-part, lent-length, lent-before, lent-in, lent-behind, tab-same}
 use Rattle.numbers.specs.Tests.{cond-true, cond-false}
 use Rattle.synthesis.specs.Sums.{meets, onto, joined}
+use Rattle.synthesis.specs.Meets.{meets-yes, meets-before, meets-past}
 use Rattle.synthesis.specs.Lines.{synthesised}
 use Rattle.synthesis.specs.Works.{joinedFrom, joinedPairs, spreadAt}
 use native.Mathlib.Nat.{add-suc, add-zero}
-
-meets-yes : (F P i : ℕ) → 2 * i ≤ P → P < 2 * i + F → meets F P i ≡ true
-meets-yes F P i h k = simp (le-leb (2 * i) P h, lt-ltb P (2 * i + F) k)
-
-meets-before : (F P i : ℕ) → P < 2 * i → meets F P i ≡ false
-meets-before F P i h = simp (lt-leb (2 * i) P h)
-
-meets-past : (F P i : ℕ) → 2 * i + F ≤ P → meets F P i ≡ false
-meets-past F P i h = simp (le-leb (2 * i) P (omega arith), le-ltb P (2 * i + F) h)
 
 module _ (f : Format) (F : ℕ) (low high a d : ℕ → Float) (P : ℕ) where
   abbrev from : ℕ → Float → ℕ → Float

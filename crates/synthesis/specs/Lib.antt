@@ -1,9 +1,10 @@
 -- Synthesis of one line. Definitions: Sums, Lines, then what the entry promises: Syntheses; Works, what the functions behind it ask for.
--- Laws: Taps, Joins, Tested, Unique.
+-- Laws: Meets, Taps, Joins, Tested, Unique.
 pub mod Sums
 pub mod Lines
 pub mod Syntheses
 pub mod Works
+pub mod Meets
 pub mod Taps
 pub mod Joins
 pub mod Tested

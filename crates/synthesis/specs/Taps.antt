@@ -1,26 +1,16 @@
 -- Laws of the taps: synthesis reads no tap but the first F, since a pair reaches a place by one of those or not at all.
 use mathlib.Core.Path.{_≡_, refl, ap, _∙_}
-use mathlib.Core.Bool.{true}
 use mathlib.Core.List.{List}
 use Prim.Native.Nat.{ℕ, zero, suc, _+_, _-_, _*_, _<_}
 use native.Mathlib.Omega.{arith}
-use borrow.Author.Tests.{leb-true, ltb-true}
-use lib.Dec.{leb, ltb}
 use lib.ListN.{length}
 use lib.Ieee.{Float, Format, add, mul}
 use Rattle.numbers.specs.Words.{at}
 use Rattle.numbers.specs.Places.{tab-same}
-use Rattle.numbers.specs.Tests.{both, cond-same}
+use Rattle.numbers.specs.Tests.{cond-same}
 use Rattle.synthesis.specs.Sums.{meets, onto, joined}
+use Rattle.synthesis.specs.Meets.{reached}
 use Rattle.synthesis.specs.Lines.{synthesised}
-
--- the tap by which a pair reaches a place is one of F
-reached : (F P i : ℕ) → meets F P i ≡ true → P - 2 * i < F
-reached F P i e =
-    let p = both (leb (2 * i) P) (ltb P (2 * i + F)) e in
-    let h = leb-true (2 * i) P (p .0) in
-    let k = ltb-true P (2 * i + F) (p .1) in
-    omega arith
 
 module _ (f : Format) (F : ℕ) (low low′ high high′ : ℕ → Float)
     (g : (j : ℕ) → j < F → low j ≡ low′ j) (h : (j : ℕ) → j < F → high j ≡ high′ j) where

@@ -3,16 +3,16 @@ use mathlib.Core.Path.{_≡_, refl, sym}
 use Rattle.synthesis.specs.declared.Synthesis.{Synthesis}
 use Rattle.synthesis.specs.declared.Synthesis.the-variants.{Done, ApproxDetailsNotMatches, OutputSizeIsNotValid, ZeroedBaseSize, Limit, Taps}
 use Rattle.synthesis.specs.Syntheses.{answerOf, numberOf}
-use Prim.Native.Nat.{ℕ, _*_, _+_}
+use Prim.Native.Nat.{ℕ, _*_, _+_, _<_}
 use Rattle.numbers.specs.Tests.{neither, passed}
 use Rattle.numbers.specs.Words.{longest}
-use borrow.Author.Tests.{eqb-true, ltb-false, not-false, leb-false}
+use borrow.Author.Tests.{eqb-true, ltb-false, not-false, leb-false, eq-eqb, le-ltb, lt-leb}
 use lib.Dec.{eqb, ltb, leb, lit<}
 use mathlib.Core.Bool.{_||_, not}
 use native.Mathlib.Omega.{arith}
 use Rattle.synthesis.specs.Works.{Joinable}
 use Rattle.bank.specs.Lengths.{badTaps, lineLength}
-use Rattle.bank.specs.Tested.{good-taps}
+use Rattle.bank.specs.Tested.{good-taps, taps-pass}
 
 -- 0 is the number of done alone
 pub done-alone : (r : Synthesis) → numberOf r ≡ 0 → r ≡ Done
@@ -42,3 +42,12 @@ joinable f a d o e =
       both = sym (eqb-true a d (not-false _ (p3 .0)));
       ruled = omega arith;
     }
+
+-- and where it has that, with a place to write, the answer is done
+pub joined-done : (f a d o : ℕ) → Joinable f a d o → 0 < o → answerOf f a d o ≡ Done
+unfolding answerOf
+joined-done f a d o p h =
+    let same : a ≡ d = sym (p .both) in
+    let rule : o ≡ lineLength a f = omega (arith, p .ruled) in
+    simp (taps-pass f (record { even = p .even; two = p .two; most = p .most }), le-ltb longest a (p .few), le-ltb longest d (omega (arith, p .both, p .few)),
+    eq-eqb a d same, lt-leb (2 * a + 2) f (omega (arith, p .ruled)), eq-eqb o (lineLength a f) rule)

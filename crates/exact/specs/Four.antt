@@ -1,0 +1,119 @@
+-- Four lists of whole taps that meet `Restores`, in floats: every place that synthesis gives of an analysis holds S times what the padded line has there (`general`).
+-- The float sums are the whole numbers' sums; of the border nothing is asked but that what stands there is a sample or zero.
+use mathlib.Core.Path.{_≡_, sym, subst}
+use mathlib.Core.Bool.{false}
+use mathlib.Core.List.{List}
+use Prim.Native.Nat.{ℕ, _+_, _-_, _*_, _/_, _%_, _^_, _≤_, _<_}
+use native.Mathlib.Nat.{le-refl, le-trans, mul-le-mul-right}
+use native.Mathlib.Decide.{decLt}
+use native.Mathlib.Omega.{arith}
+use lib.ListN.{length, getD, List·getD-eq-default}
+use lib.IntN.{ℤ, pos, natAbs, _*ℤ_}
+use lib.Ieee.{Float, nan, Format, prec}
+use Rattle.numbers.specs.Words.{plusZero, at, tab}
+use Rattle.numbers.specs.Write.{length-tab, getD-tab}
+use Rattle.numbers.specs.Places.{getD-any}
+use Rattle.whole.specs.Terms.{together}
+use Rattle.whole.specs.Floats.{Whole, Within, atℤ, Holds}
+use Rattle.whole.specs.Exact.{zero-whole}
+use Rattle.border.specs.declared.Border.{Border}
+use Rattle.border.specs.declared.rule.Source.{Source}
+use Rattle.border.specs.declared.rule.Source.the-variants.{Sample, Zero}
+use Rattle.border.specs.Rule.{source, placeIn, valueOf, padded}
+use Rattle.bank.specs.Lengths.{pairs, lineLength}
+use Rattle.analysis.specs.Sums.{analysed}
+use Rattle.analysis.specs.Lines.{paddedAt, band}
+use Rattle.synthesis.specs.Sums.{joined}
+use Rattle.synthesis.specs.Lines.{synthesised}
+use Rattle.exact.specs.Restoring.{sizes, Cleared}
+use Rattle.exact.specs.Classes.{analysedℤ, Restores}
+use Rattle.exact.specs.Weights.{dot-within, join-within}
+use Rattle.exact.specs.Identity.{identity}
+use Rattle.exact.specs.Bounds.{weighs, times, weight-le, bound-band, bound-join}
+
+-- ---- taps as functions of their place
+module _ (f : Format) (g m : ℕ) (S : ℤ) (sl sh al ah x : ℕ → Float) (slℤ shℤ alℤ ahℤ xℤ : ℕ → ℤ) (A T : ℕ)
+    (wsl : (k : ℕ) → k < 2 * g → Whole (sl k) (slℤ k)) (wsh : (k : ℕ) → k < 2 * g → Whole (sh k) (shℤ k))
+    (wal : (k : ℕ) → k < 2 * g → Whole (al k) (alℤ k)) (wah : (k : ℕ) → k < 2 * g → Whole (ah k) (ahℤ k))
+    (tsl : weighs (2 * g) slℤ ≤ T) (tsh : weighs (2 * g) shℤ ≤ T) (tal : weighs (2 * g) alℤ ≤ T) (tah : weighs (2 * g) ahℤ ≤ T)
+    (wx : (q : ℕ) → Within (x q) (xℤ q) A) (bound : 2 * A * T * T ≤ 2 ^ prec f)
+    (zl : (k : ℕ) → 2 * g ≤ k → alℤ k ≡ pos 0) (zh : (k : ℕ) → 2 * g ≤ k → ahℤ k ≡ pos 0) (r : Restores g S slℤ shℤ alℤ ahℤ) where
+  band-within : (tap : ℕ → Float) (tapℤ : ℕ → ℤ) → ((k : ℕ) → k < 2 * g → Whole (tap k) (tapℤ k)) → weighs (2 * g) tapℤ ≤ T → (i : ℕ)
+      → Within (analysed f (2 * g) tap x i) (analysedℤ (2 * g) tapℤ xℤ i) (T * A)
+  unfolding analysed
+  band-within tap tapℤ wt t i =
+      let s = times (2 * g) (λ k. natAbs (tapℤ k)) A in
+      let k : weighs (2 * g) tapℤ * A ≤ T * A = mul-le-mul-right A t in
+      let d = dot-within f tap (λ j. x (2 * i + j)) tapℤ (λ j. xℤ (2 * i + j)) A (2 * g) wt (λ j l. wx (2 * i + j)) (2 * g) (le-refl (2 * g)) (omega (arith, s, k, bound-band A T (2 ^ prec f) bound)) in
+      (d .0, omega (arith, d .1))
+
+  -- a padded place that synthesis gives: 2 g - 2 .. 2 m - 1
+  restored : (a d : ℕ → Float) (held : Float) (P : ℕ) → ((i : ℕ) → i < m → a i ≡ analysed f (2 * g) al x i) → ((i : ℕ) → i < m → d i ≡ analysed f (2 * g) ah x i)
+      → Whole held (pos 0) → 2 * g ≤ P + 2 → P < 2 * m → Whole (joined f (2 * g) sl sh a d P held m) (S *ℤ xℤ P)
+  restored a d held P ea ed clear lo hi =
+      let u = P / 2 in
+      let e = P % 2 in
+      let split : 2 * u + e ≡ P = omega arith in
+      let w = weight-le g u e m slℤ shℤ (T * A) (omega arith) (omega arith) (omega arith) in
+      let j = join-within f (2 * g) sl sh a d slℤ shℤ (analysedℤ (2 * g) alℤ xℤ) (analysedℤ (2 * g) ahℤ xℤ) (T * A) (T * A) (2 * u + e) held m wsl wsh
+      (λ i l. subst (λ (v : Float). Within v (analysedℤ (2 * g) alℤ xℤ i) (T * A)) (sym (ea i l)) (band-within al alℤ wal tal i))
+      (λ i l. subst (λ (v : Float). Within v (analysedℤ (2 * g) ahℤ xℤ i) (T * A)) (sym (ed i l)) (band-within ah ahℤ wah tah i)) clear
+      m (le-refl m) (le-trans w (bound-join A T (2 ^ prec f) (weighs (2 * g) shℤ) (weighs (2 * g) slℤ) bound tsh tsl)) in
+      subst (λ (Q : ℕ). Whole (joined f (2 * g) sl sh a d Q held m) (S *ℤ xℤ Q)) split
+      (subst (λ (z : ℤ). Whole (joined f (2 * g) sl sh a d (2 * u + e) held m) z) (identity g u e m S slℤ shℤ alℤ ahℤ xℤ (omega arith) (omega arith) (omega arith) zl zh r) (j .0))
+
+-- ---- on lists
+-- 2 g whole taps whose sizes together are at most T
+pub record Taps (g T : ℕ) (l : List Float) (z : List ℤ) : Type 0 where
+  pub holds : Holds l z
+  pub count : length z ≡ 2 * g
+  pub light : sizes z ≤ T
+
+taps-whole : {g T : ℕ} {l : List Float} {z : List ℤ} → Taps g T l z → (k : ℕ) → k < 2 * g → Whole (at l k) (atℤ z k)
+taps-whole t k h = t .holds .whole k (omega (arith, t .count))
+
+taps-weigh : {g T : ℕ} {l : List Float} {z : List ℤ} → Taps g T l z → weighs (2 * g) (atℤ z) ≤ T
+taps-weigh {g} {T} {l} {z} t = subst (λ (n : ℕ). weighs n (atℤ z) ≤ T) (t .count) (t .light)
+
+pub taps-past : {g T : ℕ} {l : List Float} {z : List ℤ} → Taps g T l z → (k : ℕ) → 2 * g ≤ k → atℤ z k ≡ pos 0
+taps-past {z = z} t k h = let o : length z ≤ k = omega (arith, t .count) in List·getD-eq-default z (pos 0) o
+
+-- the padded line is whole, whatever the border
+padded-within : (b : Border) (s : List Float) (v : List ℤ) (A : ℕ) → Holds s v → length v ≡ length s → ((i : ℕ) → i < length v → natAbs (atℤ v i) ≤ A)
+    → (left q : ℕ) → Within (padded plusZero b s left q) (padded (pos 0) b v left q) A
+unfolding padded
+padded-within b s v A h e small left q =
+    subst (λ (n : ℕ). Within (valueOf plusZero s (source b (placeIn left q) (length s))) (valueOf (pos 0) v (source b (placeIn left q) n)) A) (sym e)
+    (value (source b (placeIn left q) (length s)))
+  where
+    sample : (k : ℕ) → Dec (k < length v) → Within (getD s k plusZero) (atℤ v k) A
+    sample k (yes l) = (subst (λ (x : Float). Whole x (atℤ v k)) (getD-any s k nan plusZero (omega arith)) (h .whole k l), small k l)
+    sample k (no n) =
+        let p : length s ≤ k = omega arith in
+        let q : length v ≤ k = omega arith in
+        rw (List·getD-eq-default s plusZero p, List·getD-eq-default v (pos 0) q) (zero-whole false, omega arith)
+
+    value : (o : Source) → Within (valueOf plusZero s o) (valueOf (pos 0) v o) A
+    value (Sample k) = sample k (decLt k (length v))
+    value Zero = (zero-whole false, omega arith)
+
+module _ (f : Format) (b : Border) (g : ℕ) (S : ℤ) (sl sh al ah s out : List Float) (slℤ shℤ alℤ ahℤ v : List ℤ) (A T : ℕ) (some : 0 < g)
+    (tsl : Taps g T sl slℤ) (tsh : Taps g T sh shℤ) (tal : Taps g T al alℤ) (tah : Taps g T ah ahℤ)
+    (samples : Holds s v) (count : length v ≡ length s) (small : (i : ℕ) → i < length v → natAbs (atℤ v i) ≤ A) (bound : 2 * A * T * T ≤ 2 ^ prec f)
+    (r : Restores g S (atℤ slℤ) (atℤ shℤ) (atℤ alℤ) (atℤ ahℤ)) (clear : Cleared out) (ruled : length out ≡ lineLength (pairs (length s) (2 * g)) (2 * g)) where
+  -- every place that synthesis gives holds S times what the padded line has there
+  pub general : (p : ℕ) → p < length out
+      → Whole (at (synthesised f (2 * g) sl sh (band f al (2 * g) b s) (band f ah (2 * g) b s) out) p) (S *ℤ padded (pos 0) b v (2 * g - 2) (2 * g - 2 + p))
+  unfolding synthesised band
+  general p h =
+      let F = 2 * g in
+      let m = pairs (length s) F in
+      let there : p + (F - 2) ≡ F - 2 + p = omega arith in
+      let banded : (taps : List Float) (i : ℕ) → i < m → at (tab (analysed f F (at taps) (paddedAt F b s)) m) i ≡ analysed f F (at taps) (paddedAt F b s) i
+      = λ taps i l. getD-tab (analysed f F (at taps) (paddedAt F b s)) m i nan l in
+      rw (getD-tab (λ q. joined f F (at sl) (at sh) (at (band f al F b s)) (at (band f ah F b s)) (q + (F - 2)) (at out q) (length (band f al F b s))) (length out) p nan h,
+      length-tab (analysed f F (at al) (paddedAt F b s)) m, there)
+      (restored f g m S (at sl) (at sh) (at al) (at ah) (paddedAt F b s) (atℤ slℤ) (atℤ shℤ) (atℤ alℤ) (atℤ ahℤ) (padded (pos 0) b v (F - 2)) A T
+      (taps-whole tsl) (taps-whole tsh) (taps-whole tal) (taps-whole tah) (taps-weigh tsl) (taps-weigh tsh) (taps-weigh tal) (taps-weigh tah)
+      (padded-within b s v A samples count small (F - 2)) bound (taps-past tal) (taps-past tah) r
+      (at (band f al F b s)) (at (band f ah F b s)) (at out p) (F - 2 + p) (banded al) (banded ah) (clear .clear p h) (omega arith) (omega arith))

@@ -1,0 +1,81 @@
+-- Restoring is exact where it can be: what is asked of taps and samples, and what analysis followed by synthesis then gives. Definitions only.
+-- Floats that are whole stand beside the whole numbers that they are: z the low taps, v the samples. The statement is over a format f, whose whole numbers reach to 2^prec: 2^53 for binary64.
+use mathlib.Core.Path.{_≡_}
+use mathlib.Core.Bool.{cond}
+use mathlib.Core.List.{List}
+use Prim.Native.Nat.{ℕ, _+_, _-_, _*_, _%_, _^_, _≤_, _<_}
+use lib.Dec.{eqb}
+use lib.ListN.{length}
+use lib.IntN.{ℤ, pos, negℤ, natAbs, _*ℤ_}
+use lib.Ieee.{Float, Format, prec}
+use Rattle.numbers.specs.Words.{longest, at}
+use Rattle.whole.specs.Sums.{sum}
+use Rattle.whole.specs.Integers.{integers, naturals}
+use Rattle.whole.specs.Floats.{Whole, atℤ, Holds}
+use Rattle.border.specs.declared.Border.{Border}
+use Rattle.border.specs.Rule.{padded}
+use Rattle.bank.specs.Lengths.{GoodTaps, pairs, lineLength}
+use Rattle.analysis.specs.Lines.{band}
+use Rattle.synthesis.specs.Lines.{synthesised}
+
+-- S, the sum of squared taps
+abbrev pub squares : List ℤ → ℤ
+squares z = sum integers (length z) (λ j. atℤ z j *ℤ atℤ z j)
+
+-- T, the sum of their sizes
+abbrev pub sizes : List ℤ → ℕ
+sizes z = sum naturals (length z) (λ j. natAbs (atℤ z j))
+
+-- the sum of the taps' products with themselves shifted by d; a shift back pairs the same taps
+abbrev pub shifted : List ℤ → ℕ → ℤ
+shifted z d = sum integers (length z) (λ j. atℤ z j *ℤ atℤ z (j + d))
+
+-- plus at even places, minus at odd ones
+abbrev pub alternate : ℕ → ℤ → ℤ
+alternate j z = cond (eqb (j % 2) 0) z (negℤ z)
+
+-- the mirror rule: high tap j is low tap f - 1 - j with the sign of j
+abbrev pub mirror : List ℤ → ℕ → ℤ
+mirror z j = alternate j (atℤ z (length z - 1 - j))
+
+-- F taps in use of each list, samples s, and A
+pub record Premises (f : Format) (F : ℕ) (low high s : List Float) (z v : List ℤ) (A : ℕ) : Type 0 where
+  -- an even number of whole low taps, 2 to 64
+  pub taps : GoodTaps F
+  pub lows : Holds low z
+  pub told : length z ≡ F
+  -- whose products with themselves shifted by any even distance but zero sum to zero
+  pub apart : (k : ℕ) → 0 < k → shifted z (2 * k) ≡ pos 0
+  -- high taps by the mirror rule
+  pub highs : (j : ℕ) → j < F → Whole (at high j) (mirror z j)
+  -- samples whole, no fewer than the taps, at most 1,048,576
+  pub samples : Holds s v
+  pub count : length v ≡ length s
+  pub enough : F ≤ length s
+  pub limit : length s ≤ longest
+  -- A at least 1 and no sample larger in size
+  pub one : 1 ≤ A
+  pub small : (i : ℕ) → i < length v → natAbs (atℤ v i) ≤ A
+  -- 2 A T T at most 2^prec
+  pub bound : 2 * A * sizes z * sizes z ≤ 2 ^ prec f
+
+-- every place a zero, of either sign
+pub record Cleared (out : List Float) : Type 0 where
+  pub clear : (p : ℕ) → p < length out → Whole (at out p) (pos 0)
+
+-- the border's next sample: what stands just behind the line
+abbrev pub next : Border → List ℤ → ℤ
+next b v = padded (pos 0) b v 0 (length v)
+
+-- exactly S times each sample, either zero as zero; of an odd length the one extra place holds S times the border's next sample
+pub record Restored (b : Border) (S : ℤ) (v : List ℤ) (out : List Float) : Type 0 where
+  pub long : length out ≡ length v + length v % 2
+  pub each : (i : ℕ) → i < length v → Whole (at out i) (S *ℤ atℤ v i)
+  pub extra : length v % 2 ≡ 1 → Whole (at out (length v)) (S *ℤ next b v)
+
+-- analysis under any border, then synthesis into a cleared output of the ruled length
+abbrev pub RestoringIsExact : Format → Type 0
+RestoringIsExact f =
+    (b : Border) (F : ℕ) (low high s out : List Float) (z v : List ℤ) (A : ℕ) → Premises f F low high s z v A
+    → Cleared out → length out ≡ lineLength (pairs (length s) F) F
+    → Restored b (squares z) v (synthesised f F low high (band f low F b s) (band f high F b s) out)

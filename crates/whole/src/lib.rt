@@ -1,0 +1,1 @@
+// Laws alone: sums of whole numbers, and floats that are whole numbers.
