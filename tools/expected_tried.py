@@ -1,4 +1,4 @@
-"""expected_tried PROGRAM: prints what `tried`, `tried_sums` or `tried_refusals` has to write, from document 01's rules and numbers alone.
+"""expected_tried PROGRAM: prints what `tried`, `tried_sums`, `tried_refusals` or `tried_exact` has to write, from document 01's rules and numbers alone.
 
     python3 tools/expected_tried.py tried | diff - crates/tried/stdout
 
@@ -394,5 +394,62 @@ klent('Reflect101 of 3 samples, 1 behind', (0,), 3, 3, 4, 1, 0)
 told('1048577 samples, no output', (11,), convolution_answer('Wrap', 1048577, 0, 3, 0, 0))
 told('1048576 samples, empty kernel', (0,), convolution_answer('Wrap', 1048576, 1048576, 0, 0, 0))
 told('1048576 samples, scratch short', (5, 1048577, 1048576), convolution_answer('Wrap', 1048576, 1048576, 1, 0, 1048576))
+
+# --- there and back
+program = 'tried_exact'
+def back_answer(f, n, a, d, s, o):
+    r = analysis_answer(f, n, a, d, s)
+    return r if r != (0,) else synthesis_answer(f, a, d, o)
+def returned(name, bank, line, a, d, s, o):
+    head(name)
+    r = back_answer(bank.f, len(line), len(a), len(d), len(s), len(o))
+    if r == (0,):
+        r, a, d, s = analyse(bank, line, a, d, s)
+        r, o = synthesise(bank, a, d, [0.0] * len(o))
+    answer(r); buf('approx', a); buf('detail', d); buf('scratch', s); buf('out', o)
+    return r, a, d, s, o
+def whole(x):
+    assert x == int(x)
+    return int(x)
+def premises(low, line, high):
+    T, A = sum(abs(t) for t in low), max(1, max(abs(x) for x in line))
+    return (len(low) % 2 == 0 and 2 <= len(low) <= 64 and high == mirror(low) and len(low) <= len(line) <= LIMIT
+        and all(sum(low[j] * low[j + k] for j in range(len(low) - k)) == 0 for k in range(2, len(low), 2)) and 2 * whole(A) * whole(T) ** 2 <= 2 ** 53)
+def there(name, bank, line, more=0):
+    """whether the premises hold, and whether S times the line comes back, with the border's next sample behind an odd one"""
+    f, n = bank.f, len(line)
+    m = (n + f - 1) // 2
+    r, a, d, s, o = returned(name, bank, line, sevens(m), sevens(m), sevens(2 * m + f - 2 + more), sevens(2 * m - f + 2))
+    assert r == (0,) and len(o) == n + n % 2
+    S = sum(whole(t) ** 2 for t in bank.low)
+    want = [S * whole(x) for x in line] + ([S * whole(sample(bank.border, line, n))] if n % 2 else [])
+    return premises(bank.low, line, bank.high), [whole(x) for x in o] == want
+for b in BORDERS: assert there('P8: ' + b, Bank(low8, mirror(low8), b), [10.0, 20.0, 30.0, 40.0], 1) == (True, True)
+for b in BORDERS: assert there('five samples, ' + b, Bank(low8, mirror(low8), b), [5.0, -0.0, 3.0, -4.0, 9.0]) == (True, True)
+assert there('taps 1 1, the largest A', Bank([1.0, 1.0], [1.0, -1.0], 'Clamp'), [2.0 ** 50, -2.0 ** 50, 1.0]) == (True, True)
+low6, most = [6.0, 12.0, 3.0, -4.0, 6.0, -3.0], 3895847428521
+assert 2 * most * 34 ** 2 <= 2 ** 53 < 2 * (most + 1) * 34 ** 2 and sum(abs(t) for t in low6) == 34
+seven = [float(most * x) for x in (1, -1, 1, 1, -1, -1, 0)]
+for b in BORDERS: assert there('six taps, the largest A, ' + b, Bank(low6, mirror(low6), b), seven) == (True, True)
+far = [-134482488872868.0, 134482488872868.0, 134482488872868.0, -134482488872867.0]
+assert there("P8's bank past the bound", Bank(low8, mirror(low8), 'Wrap'), far) == (False, False)
+assert there("P8's taps, the mirror's sign dropped", Bank(low8, low8[::-1], 'Wrap'), [10.0, 20.0, 30.0, 40.0]) == (False, False)
+low3 = [3.0, 6.0, 2.0, 1.0]
+assert there('taps 3 6 2 1, not zero at distance two', Bank(low3, mirror(low3), 'Wrap'), [10.0, 20.0, 30.0, 40.0]) == (False, False)
+def rlent(name, want, f, n, a, d, s, o):
+    r, a2, d2, s2, o2 = returned(name, counted(f), [1.0] * n, sevens(a), sevens(d), sevens(s), sevens(o))
+    assert r == want and set(a2 + d2 + s2 + o2) <= {7.0}, (name, r)
+rlent('3 taps, all wrong', (12,), 3, 2, 1, 3, 1, 1)
+rlent('4 taps, 3 samples, all wrong', (1, 3, 4), 4, 3, 1, 2, 1, 1)
+rlent('approximations, details, scratch and output wrong', (2, 2), 4, 4, 2, 4, 1, 1)
+rlent('details, scratch and output wrong', (2, 4), 4, 4, 3, 4, 1, 1)
+rlent('scratch and output wrong', (5, 8, 7), 4, 4, 3, 3, 7, 1)
+rlent('output too short', (4, 3, 4), 4, 4, 3, 3, 8, 3)
+rlent('output too long', (4, 5, 4), 4, 4, 3, 3, 8, 5)
+rlent('no output', (4, 0, 4), 4, 4, 3, 3, 8, 0)
+told('66 taps, 1048577 samples', (12,), back_answer(66, 1048577, 0, 0, 0, 0))
+told('4 taps, 1048577 samples', (11,), back_answer(4, 1048577, 0, 0, 0, 0))
+told('64 taps, 1048576 samples, output short', (4, 1048575, 1048576), back_answer(64, 1048576, 524319, 524319, 1048700, 1048575))
+told('64 taps, 1048576 samples', (0,), back_answer(64, 1048576, 524319, 524319, 1048700, 1048576))
 
 sys.stdout.write('\n'.join(texts[sys.argv[1]]) + '\n')

@@ -36,8 +36,14 @@ analysing f n a d s e =
 pub analysed-done : (f n a d s : ℕ) → Analysing f n a d s → answerOf f n a d s ≡ Done
 unfolding answerOf
 analysed-done f n a d s p =
-    simp (taps-pass f (p .ready .taps), le-ltb longest n (p .ready .limit), le-ltb n f (p .ready .enough), eq-eqb a (pairs n f) (p .approxed),
-    eq-eqb d (pairs n f) (p .detailed), le-ltb s (paddedLength n f) (p .room))
+    simp (
+      taps-pass f (p .ready .taps),
+      le-ltb longest n (p .ready .limit),
+      le-ltb n f (p .ready .enough),
+      eq-eqb a (pairs n f) (p .approxed),
+      eq-eqb d (pairs n f) (p .detailed),
+      le-ltb s (paddedLength n f) (p .room),
+    )
 
 -- 0 is the number of done alone
 pub done-alone : (r : Analysis) → numberOf r ≡ 0 → r ≡ Done

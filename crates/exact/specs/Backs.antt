@@ -10,10 +10,8 @@ use Rattle.bank.specs.declared.Bank.{Bank}
 use Rattle.bank.specs.Lengths.{pairs, paddedLength, lineLength}
 use Rattle.analysis.specs.Analyses as Analyses
 use Rattle.analysis.specs.Lines.{band, paddedInto}
-use Rattle.analysis.specs.declared.Analysis as There
 use Rattle.synthesis.specs.Syntheses as Syntheses
 use Rattle.synthesis.specs.Lines.{synthesised}
-use Rattle.synthesis.specs.declared.Synthesis as Here
 use Rattle.exact.specs.declared.Back.{Back}
 use Rattle.exact.specs.declared.Back.the-variants.{Done, Analysis, Synthesis}
 use Rattle.exact.specs.Restoring.{squares, Premises, Restored}

@@ -4,12 +4,9 @@ use Prim.Native.Nat.{ℕ, zero, suc, _+_, _*_, _≤_, _<_}
 use native.Mathlib.Nat.{le-trans, add-le-add, mul-le-mul-right, zero-mul, add-mul}
 use native.Mathlib.Omega.{arith}
 use lib.IntN.{ℤ, natAbs}
-use Rattle.numbers.specs.Words.{at}
 use Rattle.whole.specs.Sums.{sum}
 use Rattle.whole.specs.Terms.{through, alike, together, by-parity}
 use Rattle.whole.specs.Integers.{naturals}
-use Rattle.analysis.specs.Lines.{band}
-use Rattle.exact.specs.Restoring.{sizes}
 use Rattle.exact.specs.Weights.{weight}
 use Rattle.exact.specs.Identity.{reach}
 

@@ -3,18 +3,16 @@ use mathlib.Core.Path.{_≡_, refl, sym, ap, _∙_, subst}
 use mathlib.Core.Bool.{false}
 use mathlib.Core.Logic.{_⊎_, inl, inr, ⊎-elim}
 use mathlib.Core.List.{List}
-use Prim.Native.Nat.{ℕ, zero, suc, _+_, _*_, _<_}
+use Prim.Native.Nat.{ℕ, zero, suc, _<_}
 use native.Mathlib.Omega.{arith}
 use lib.ListN.{length}
-use lib.IntN.{ℤ}
 use lib.Ieee.{Float, nan, binary64}
-use Rattle.numbers.specs.Words.{plusZero, tab, whenDone}
+use Rattle.numbers.specs.Words.{plusZero, whenDone}
 use Rattle.numbers.specs.Write.{length-tab, getD-tab}
 use Rattle.numbers.specs.Tests.{kept, renewed, refused}
-use Rattle.whole.specs.Floats.{Whole}
 use Rattle.whole.specs.Exact.{zero-whole}
 use Rattle.bank.specs.declared.Bank.{Bank}
-use Rattle.bank.specs.Lengths.{pairs, lineLength, Analysable}
+use Rattle.bank.specs.Lengths.{Analysable}
 use Rattle.analysis.specs.declared.Analysis.{Analysis}
 use Rattle.analysis.specs.declared.Analysis.the-variants as analysis
 use Rattle.analysis.specs.Analyses as Analyses
@@ -25,11 +23,10 @@ use Rattle.analysis.specs.Tested.{analysed-done, analysing, done-alone as done-
 use Rattle.synthesis.specs.declared.Synthesis.{Synthesis}
 use Rattle.synthesis.specs.declared.Synthesis.the-variants as synthesis
 use Rattle.synthesis.specs.Syntheses as Syntheses
-use Rattle.synthesis.specs.Lines.{synthesised}
 use Rattle.synthesis.specs.Tested.{joined-done, done-alone as done-synthesis}
 use Rattle.exact.specs.declared.Back.{Back}
 use Rattle.exact.specs.declared.Back.the-variants as way
-use Rattle.exact.specs.Restoring.{squares, Premises, Cleared, Restored}
+use Rattle.exact.specs.Restoring.{squares, Cleared, Restored}
 use Rattle.exact.specs.Exact.{exact}
 use Rattle.exact.specs.Backs.{numberOf, answerOf, cleared, backFrom, Ruled, Returned}
 

@@ -13,7 +13,6 @@ use lib.Ieee.{Float, nan, Format, prec}
 use Rattle.numbers.specs.Words.{plusZero, at, tab}
 use Rattle.numbers.specs.Write.{length-tab, getD-tab}
 use Rattle.numbers.specs.Places.{getD-any}
-use Rattle.whole.specs.Terms.{together}
 use Rattle.whole.specs.Floats.{Whole, Within, atℤ, Holds}
 use Rattle.whole.specs.Exact.{zero-whole}
 use Rattle.border.specs.declared.Border.{Border}
@@ -111,8 +110,11 @@ module _ (f : Format) (b : Border) (g : ℕ) (S : ℤ) (sl sh al ah s out : List
       let there : p + (F - 2) ≡ F - 2 + p = omega arith in
       let banded : (taps : List Float) (i : ℕ) → i < m → at (tab (analysed f F (at taps) (paddedAt F b s)) m) i ≡ analysed f F (at taps) (paddedAt F b s) i
       = λ taps i l. getD-tab (analysed f F (at taps) (paddedAt F b s)) m i nan l in
-      rw (getD-tab (λ q. joined f F (at sl) (at sh) (at (band f al F b s)) (at (band f ah F b s)) (q + (F - 2)) (at out q) (length (band f al F b s))) (length out) p nan h,
-      length-tab (analysed f F (at al) (paddedAt F b s)) m, there)
+      rw (
+        getD-tab (λ q. joined f F (at sl) (at sh) (at (band f al F b s)) (at (band f ah F b s)) (q + (F - 2)) (at out q) (length (band f al F b s))) (length out) p nan h,
+        length-tab (analysed f F (at al) (paddedAt F b s)) m,
+        there,
+      )
       (restored f g m S (at sl) (at sh) (at al) (at ah) (paddedAt F b s) (atℤ slℤ) (atℤ shℤ) (atℤ alℤ) (atℤ ahℤ) (padded (pos 0) b v (F - 2)) A T
       (taps-whole tsl) (taps-whole tsh) (taps-whole tal) (taps-whole tah) (taps-weigh tsl) (taps-weigh tsh) (taps-weigh tal) (taps-weigh tah)
       (padded-within b s v A samples count small (F - 2)) bound (taps-past tal) (taps-past tah) r

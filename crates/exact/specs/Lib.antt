@@ -1,11 +1,14 @@
--- Restoring is exact: the statement, its proof over the line's sums, and what running there and back promises.
+-- Restoring is exact. Definitions: Restoring, the statement; Classes, the condition of four lists; Backs, what running there and back promises.
+-- Laws: Weights, Identity, Mirror, Bounds, Four, Exact, the proof; Premised, the premises by computation; Calls, Unique.
 pub mod Restoring
 pub mod Classes
+pub mod Backs
 pub mod Weights
 pub mod Identity
 pub mod Mirror
 pub mod Bounds
 pub mod Four
 pub mod Exact
-pub mod Backs
+pub mod Premised
 pub mod Calls
+pub mod Unique

@@ -1,6 +1,6 @@
 -- Laws of a mirror bank in whole numbers: low taps whose products at even distances sum to zero, with high taps by the mirror rule and the same taps both ways, meet `Restores`.
 -- In each class the high taps give, up to the sign of the distance, what the low taps of the other parity give: at odd distances the two cancel, at even ones they make up the whole sum.
-use mathlib.Core.Path.{_≡_, refl, sym, ap, _∙_}
+use mathlib.Core.Path.{_≡_, sym, ap, _∙_}
 use mathlib.Core.Logic.{_≢_, _⊎_, inl, inr, ⊎-elim}
 use mathlib.Core.Bool.{cond}
 use Prim.Native.Nat.{ℕ, zero, suc, _+_, _-_, _*_, _/_, _%_, _≤_, _<_}
@@ -9,13 +9,13 @@ use native.Mathlib.Decide.{decLt, ℕ-discrete}
 use native.Mathlib.Omega.{arith}
 use borrow.Author.Tests.{eq-eqb, ne-eqb}
 use lib.Dec.{eqb}
-use lib.IntN.{ℤ, pos, negsuc, negℤ, _+ℤ_, _*ℤ_, one, +ℤ-comm, +ℤ-invr, *ℤ-zero, *ℤ-one, *ℤ-comm}
+use lib.IntN.{ℤ, pos, negℤ, _+ℤ_, _*ℤ_, one, +ℤ-comm, +ℤ-invr, *ℤ-zero, *ℤ-one, *ℤ-comm}
 use Rattle.numbers.specs.Tests.{cond-true, cond-false}
 use Rattle.whole.specs.Sums.{sum}
 use Rattle.whole.specs.Terms.{through, alike, together, cut, reverse, by-parity}
 use Rattle.whole.specs.Integers.{integers, mul-add, neg-mul, mul-middle}
 use Rattle.exact.specs.Restoring.{alternate}
-use Rattle.exact.specs.Classes.{moved, class, Restores}
+use Rattle.exact.specs.Classes.{moved, Restores}
 use Rattle.exact.specs.Identity.{moved-front, moved-at, moved-same, line-sum}
 
 -- ---- signs by parity
@@ -174,10 +174,12 @@ module _ (g : ℕ) (low : ℕ → ℤ) (past : (j : ℕ) → 2 * g ≤ j → low
               ∙ ap (λ (v : ℤ). low (2 * t + (1 - e)) *ℤ v) (moved-same low (2 * (g - suc t) + e + y) (2 * g - 1 + c) y (2 * t + (1 - e) + c) (omega arith))
 
       pub mirror-restores : Restores g S low high low high
-      mirror-restores = record { classes = λ e y c h.
-        together integers g (λ t. low (2 * t + e) *ℤ moved low c (2 * t + e + y)) (λ t. high (2 * t + e) *ℤ moved high c (2 * t + e + y))
-        ∙ ap (λ (v : ℤ). corr g low e y c +ℤ v) (high-class e y c h ∙ sym (alternate-sign (y + c) (corr g low (1 - e) c y)))
-        ∙ ⊎-elim (even e y c h) (odd e y c h) (parity (y + c)) }
+      mirror-restores = record {
+        classes = λ e y c h.
+            together integers g (λ t. low (2 * t + e) *ℤ moved low c (2 * t + e + y)) (λ t. high (2 * t + e) *ℤ moved high c (2 * t + e + y))
+            ∙ ap (λ (v : ℤ). corr g low e y c +ℤ v) (high-class e y c h ∙ sym (alternate-sign (y + c) (corr g low (1 - e) c y)))
+            ∙ ⊎-elim (even e y c h) (odd e y c h) (parity (y + c));
+      }
         where
           even : (e y c : ℕ) → e < 2 → (y + c) % 2 ≡ 0 → corr g low e y c +ℤ alternate (y + c) (corr g low (1 - e) c y) ≡ cond (eqb y c) S (pos 0)
           even e y c h p =

@@ -1,5 +1,5 @@
 -- Laws of the float sums over whole taps and whole lines: they are the sums of the whole numbers, since no sum on the way is larger than the sizes of its terms together, and those stay within 2^prec.
-use mathlib.Core.Path.{_≡_, refl, sym, _∙_, subst}
+use mathlib.Core.Path.{_≡_, refl, sym, subst}
 use mathlib.Core.Bool.{Bool, true, false, cond}
 use Prim.Native.Nat.{ℕ, zero, suc, _+_, _-_, _*_, _^_, _≤_, _<_}
 use native.Mathlib.Nat.{le-refl, le-trans, add-le-add, mul-le-mul-left}

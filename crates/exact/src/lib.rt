@@ -7,8 +7,8 @@ use analysis::analyse;
 use analysis::analysis_answer;
 use bank::Bank;
 use synthesis::Synthesis;
-use synthesis::synthesise;
 use synthesis::synthesis_answer;
+use synthesis::synthesise;
 
 // Done, or which way was refused and how.
 pub enum Back {
@@ -18,7 +18,14 @@ pub enum Back {
 }
 
 // The tests, on lengths alone: those of the way there, then those of the way back.
-pub fn back_answer(f: usize, n: usize, approx: usize, detail: usize, scratch: usize, out: usize) -> Back
+pub fn back_answer(
+    f: usize,
+    n: usize,
+    approx: usize,
+    detail: usize,
+    scratch: usize,
+    out: usize,
+) -> Back
     ensures { λ r. ⌜ r ≡ answerOf f n approx detail scratch out ⌝ }
 {
     let there = analysis_answer(f, n, approx, detail, scratch);
@@ -54,7 +61,14 @@ pub fn there_and_back(
     ensures { λ r. ⌜ Returned bank (now (line .entry)) (now (approx .entry)) (now (detail .entry)) (now (scratch .entry)) (now (out .entry))
         r (now (approx .exit)) (now (detail .exit)) (now (scratch .exit)) (now (out .exit)) ⌝ }
 {
-    let answer = back_answer(bank.taps, line.len(), approx.len(), detail.len(), scratch.len(), out.len());
+    let answer = back_answer(
+        bank.taps,
+        line.len(),
+        approx.len(),
+        detail.len(),
+        scratch.len(),
+        out.len(),
+    );
     let Back::Done = answer else {
         return answer;
     };

@@ -49,5 +49,11 @@ unfolding answerOf
 joined-done f a d o p h =
     let same : a ≡ d = sym (p .both) in
     let rule : o ≡ lineLength a f = omega (arith, p .ruled) in
-    simp (taps-pass f (record { even = p .even; two = p .two; most = p .most }), le-ltb longest a (p .few), le-ltb longest d (omega (arith, p .both, p .few)),
-    eq-eqb a d same, lt-leb (2 * a + 2) f (omega (arith, p .ruled)), eq-eqb o (lineLength a f) rule)
+    simp (
+      taps-pass f (record { even = p .even; two = p .two; most = p .most }),
+      le-ltb longest a (p .few),
+      le-ltb longest d (omega (arith, p .both, p .few)),
+      eq-eqb a d same,
+      lt-leb (2 * a + 2) f (omega (arith, p .ruled)),
+      eq-eqb o (lineLength a f) rule,
+    )

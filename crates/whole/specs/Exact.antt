@@ -105,35 +105,38 @@ module _ (f : Format) (c a b : ℕ) (p : 0 < c) where
   sum-whole false true h = sum-unlike false h
   sum-whole true false h = sum-unlike true h
 
--- a size over the product of two denominators
+-- what holds of two finite floats holds of two that are whole
+of-two : (z w : ℤ) (P : Float → Float → Type 0) → ((s : Bool) (m : ℕ) (e : ℤ) (t : Bool) (n : ℕ) (d : ℤ) → Whole (fin s m e) z → Whole (fin t n d) w → P (fin s m e) (fin t n d))
+    → (x y : Float) → Whole x z → Whole y w → P x y
+of-two z w P h nan y p q = absurd p
+of-two z w P h (inf s) y p q = absurd p
+of-two z w P h (fin s m e) nan p q = absurd q
+of-two z w P h (fin s m e) (inf t) p q = absurd q
+of-two z w P h (fin s m e) (fin t n d) p q = h s m e t n d p q
+
+-- sizes over the product of two denominators
 over : (k a d e : ℕ) → k ≡ a * d → k * e ≡ a * (d * e)
 over k a d e h = omega (arith, ap (λ (x : ℕ). x * e) h)
 
+over-other : (k a d e : ℕ) → k ≡ a * d → k * e ≡ a * (e * d)
+over-other k a d e h = over k a d e h ∙ ap (λ (x : ℕ). a * x) (mul-comm d e)
+
 pub add-whole : (f : Format) (x y : Float) (z w : ℤ) → Whole x z → Whole y w → natAbs (z +ℤ w) ≤ 2 ^ prec f → Whole (add f x y) (z +ℤ w)
 unfolding add
-add-whole f nan y z w p q h = absurd p
-add-whole f (inf s) y z w p q h = absurd p
-add-whole f (fin s m e) nan z w p q h = absurd q
-add-whole f (fin s m e) (inf t) z w p q h = absurd q
-add-whole f (fin s m e) (fin t n d) z w p q h =
+add-whole f x y z w p q h = of-two z w (λ x y. Whole (add f x y) (z +ℤ w)) (λ s m e t n d p q.
     let a = natAbs z in let b = natAbs w in
     let c = down e * down d in
     let sums : z +ℤ w ≡ signed s a +ℤ signed t b = ap (λ (v : ℤ). v +ℤ w) (p .0) ∙ ap (λ (v : ℤ). signed s a +ℤ v) (q .0) in
-    let first : m * up e * down d ≡ a * c = over (m * up e) a (down e) (down d) (p .1) in
-    let second : n * up d * down e ≡ b * c = over (n * up d) b (down d) (down e) (q .1) ∙ ap (λ (x : ℕ). b * x) (mul-comm (down d) (down e)) in
-    rw (first, second, sums) (sum-whole f c a b (mul-pos (down-pos e) (down-pos d)) s t (subst (λ (v : ℤ). natAbs v ≤ 2 ^ prec f) sums h))
+    rw (over (m * up e) a (down e) (down d) (p .1), over-other (n * up d) b (down d) (down e) (q .1), sums)
+    (sum-whole f c a b (mul-pos (down-pos e) (down-pos d)) s t (subst (λ (v : ℤ). natAbs v ≤ 2 ^ prec f) sums h))) x y p q
 
 pub mul-whole : (f : Format) (x y : Float) (z w : ℤ) → Whole x z → Whole y w → natAbs (z *ℤ w) ≤ 2 ^ prec f → Whole (mul f x y) (z *ℤ w)
 unfolding mul
-mul-whole f nan y z w p q h = absurd p
-mul-whole f (inf s) y z w p q h = absurd p
-mul-whole f (fin s m e) nan z w p q h = absurd q
-mul-whole f (fin s m e) (inf t) z w p q h = absurd q
-mul-whole f (fin s m e) (fin t n d) z w p q h =
+mul-whole f x y z w p q h = of-two z w (λ x y. Whole (mul f x y) (z *ℤ w)) (λ s m e t n d p q.
     let a = natAbs z in let b = natAbs w in
     landed f (unlike s t) (m * up e * (n * up d)) (down e * down d) (a * b) (z *ℤ w) (mul-pos (down-pos e) (down-pos d))
     (product (m * up e) (n * up d) a b (down e) (down d) (p .1) (q .1))
-    (ap (λ (v : ℤ). v *ℤ w) (p .0) ∙ ap (λ (v : ℤ). signed s a *ℤ v) (q .0) ∙ signed-mul s t a b) h
+    (ap (λ (v : ℤ). v *ℤ w) (p .0) ∙ ap (λ (v : ℤ). signed s a *ℤ v) (q .0) ∙ signed-mul s t a b) h) x y p q
   where
     product : (k l a b d e : ℕ) → k ≡ a * d → l ≡ b * e → k * l ≡ a * b * (d * e)
     product k l a b d e h j = omega (arith, ap (λ (x : ℕ). x * l) h, ap (λ (x : ℕ). a * d * x) j)
@@ -169,16 +172,11 @@ int-holds f z h = record { whole = λ i l. subst (λ (x : Float). Whole x (atℤ
 -- floats that are one whole number are equal by the machine's own test, which takes -0 for +0
 pub whole-eq : (x y : Float) (z : ℤ) → Whole x z → Whole y z → eq x y ≡ true
 unfolding eq
-whole-eq nan y z p q = absurd p
-whole-eq (inf s) y z p q = absurd p
-whole-eq (fin s m e) nan z p q = absurd q
-whole-eq (fin s m e) (inf t) z p q = absurd q
-whole-eq (fin s m e) (fin t n d) z p q =
+whole-eq x y z p q = of-two z z (λ x y. eq x y ≡ true) (λ s m e t n d p q.
     let a = natAbs z in
     let c = down e * down d in
-    let first : m * up e * down d ≡ a * c = over (m * up e) a (down e) (down d) (p .1) in
-    let second : n * up d * down e ≡ a * c = over (n * up d) a (down d) (down e) (q .1) ∙ ap (λ (x : ℕ). a * x) (mul-comm (down d) (down e)) in
-    rw (first, second, eq-eqb (a * c) (a * c) refl) (either s t a c (sym (p .0) ∙ q .0))
+    rw (over (m * up e) a (down e) (down d) (p .1), over-other (n * up d) a (down d) (down e) (q .1), eq-eqb (a * c) (a * c) refl)
+    (either s t a c (sym (p .0) ∙ q .0))) x y p q
   where
     either : (s t : Bool) (a c : ℕ) → signed s a ≡ signed t a → (Bool·beq s t || eqb (a * c) 0) ≡ true
     either false false a c h = refl

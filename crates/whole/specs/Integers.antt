@@ -5,7 +5,7 @@ use native.Mathlib.Nat.{zero-add, add-comm, add-assoc}
 use native.Mathlib.Omega.{arith}
 use mathlib.Core.Bool.{Bool, true, false, cond}
 use lib.Dec.{ltb}
-use lib.IntN.{ℤ, pos, negsuc, sucℤ, predℤ, negℤ, natAbs, subℕ, _+ℤ_, _*ℤ_, +ℤ-idl, +ℤ-idr, +ℤ-assoc, +ℤ-comm, +ℤ-invr, +ℤ-sucℤ, +ℤ-predℤ, zero-*ℤ, *ℤ-comm, sucℤ-*ℤ, predℤ-*ℤ, negℤ-negℤ}
+use lib.IntN.{ℤ, pos, negsuc, sucℤ, predℤ, negℤ, natAbs, subℕ, _+ℤ_, _*ℤ_, +ℤ-idl, +ℤ-idr, +ℤ-assoc, +ℤ-comm, +ℤ-invr, +ℤ-sucℤ, +ℤ-predℤ, zero-*ℤ, *ℤ-comm, sucℤ-*ℤ, predℤ-*ℤ}
 use Rattle.whole.specs.Sums.{Adding}
 
 abbrev pub naturals : Adding ℕ

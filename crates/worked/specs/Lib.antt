@@ -2,3 +2,4 @@
 pub mod Whole
 pub mod Lines
 pub mod Kernels
+pub mod Restoring

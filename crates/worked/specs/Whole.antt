@@ -1,7 +1,8 @@
--- Whole numbers as floats, for the examples. Definitions only.
-use mathlib.Core.List.{List, map}
+-- Whole numbers as binary64 floats, for the examples. Definitions only.
+use mathlib.Core.List.{List}
 use lib.IntN.{ℤ}
-use lib.Ieee.{Float, binary64, ofInt}
+use lib.Ieee.{Float, binary64}
+use Rattle.whole.specs.Floats as Floats
 
 abbrev pub floats : List ℤ → List Float
-floats l = map (ofInt binary64) l
+floats l = Floats.floats binary64 l

@@ -1,27 +1,14 @@
 -- `analysis::analyse` meets its contract. Where the answer is done every test passed, which gives the work what it asks for; on any other answer nothing was written.
 use borrow.Author.Needs.{needs}
 use denote.Enum.Declared.{tagOf, declared}
-use Rattle.analysis.specs.declared.Analysis.{Analysis}
-use Rattle.analysis.specs.declared.Analysis.the-variants.{Done, MinFilterSize, ApproxDetailsSize, ScratchSize, Limit, Taps}
 use Rattle.analysis.specs.Analyses.{numberOf}
 use Rattle.analysis.proofs.Analysis.{enum}
 use Rattle.analysis.proofs.analyse.Statement.{statement}
 use Rattle.analysis.proofs.analyse.Tie as tie
-use Prim.Native.Nat.{_<_}
-use Rattle.analysis.specs.Tested.{analysing}
-use Rattle.numbers.specs.Tests.{kept, key-above}
+use Rattle.analysis.specs.Tested.{analysing, done-alone}
+use Rattle.numbers.specs.Tests.{kept, key-above, other, refused}
 use lib.Dec.{lit<}
-use mathlib.Core.Path.{_∙_, sym}
-use native.Mathlib.Omega.{arith}
-
--- an answer other than the first is a refusal
-refusal : (r : Analysis) → 0 < tagOf (declared enum) r → 0 < numberOf r
-refusal Done h = absurd (omega arith)
-refusal (MinFilterSize n f) h = lit< tt
-refusal (ApproxDetailsSize l) h = lit< tt
-refusal (ScratchSize need have) h = lit< tt
-refusal Limit h = lit< tt
-refusal Taps h = lit< tt
+use mathlib.Core.Path.{_∙_, refl, sym}
 
 analysis-answer-requires : tie.Need-analysis-answer-requires
 analysis-answer-requires c κs = search needs
@@ -31,7 +18,7 @@ enum-told c = search needs
 
 returns : tie.Need-returns
 returns c = let r = c .before .analysis-answer .result in
-    let z = refusal r (key-above 4 1 _ (lit< tt) (c .match .keys2)) in
+    let z = refused numberOf done-alone r (other (tagOf (declared enum)) r refl (key-above 4 1 _ (lit< tt) (c .match .keys2))) in
     record { answer = c .before .analysis-answer .ensures; approxes = kept (numberOf r) z _ _; details = kept (numberOf r) z _ _; scratched = kept (numberOf r) z _ _ }
 
 line-bands-requires : tie.Need-line-bands-requires

@@ -1,0 +1,15 @@
+// Runs there and back: lines that come back exactly, lines that do not for want of one premise, and what is refused.
+mod refused;
+mod restored;
+mod returned;
+mod unrestored;
+
+fn main() {
+    restored::even();
+    restored::odd();
+    restored::two_taps();
+    restored::six_taps();
+    unrestored::cases();
+    refused::lengths();
+    refused::limits();
+}

@@ -1,0 +1,34 @@
+// A call of there_and_back, with its answer and every lent buffer after it.
+use analysis::Analysis;
+use bank::Bank;
+use exact::Back;
+use exact::there_and_back;
+use trying::answers::of_analysis;
+use trying::answers::of_synthesis;
+use trying::print::floats;
+use trying::print::heading;
+
+pub fn of_back(a: Back) {
+    match a {
+        Back::Done => of_analysis(Analysis::Done),
+        Back::Analysis(r) => of_analysis(r),
+        Back::Synthesis(r) => of_synthesis(r),
+    }
+}
+
+pub fn returned(
+    name: &[u8],
+    bank: Bank,
+    line: &[f64],
+    approx: &mut [f64],
+    detail: &mut [f64],
+    scratch: &mut [f64],
+    out: &mut [f64],
+) {
+    heading(name);
+    of_back(there_and_back(bank, line, approx, detail, scratch, out));
+    floats(b"approx", approx);
+    floats(b"detail", detail);
+    floats(b"scratch", scratch);
+    floats(b"out", out);
+}

@@ -1,0 +1,76 @@
+-- Restoring is exact, of three banks: they meet the premises under every border, one with samples at the largest A that the bound allows; and a line past the bound that does not come back. Each is computed.
+use mathlib.Core.Path.{_≡_, refl}
+use mathlib.Core.Bool.{false}
+use mathlib.Core.List.{List, [], _∷_}
+use lib.ListN.{replicate}
+use lib.IntN.{ℤ, pos, negsuc, _*ℤ_}
+use lib.Ieee.{binary32, binary64, ofInt, add, mul}
+use Rattle.numbers.specs.Words.{plusZero, tab}
+use Rattle.whole.specs.Sums.{sum}
+use Rattle.border.specs.declared.Border.{Border}
+use Rattle.border.specs.declared.Border.the-variants.{Wrap}
+use Rattle.border.specs.Rule.{source, padded}
+use Rattle.bank.specs.Lengths.{badTaps}
+use Rattle.analysis.specs.Sums.{dot, analysed}
+use Rattle.analysis.specs.Lines.{band}
+use Rattle.synthesis.specs.Sums.{joined}
+use Rattle.synthesis.specs.Lines.{synthesised}
+use Rattle.exact.specs.Restoring.{squares, sizes}
+use Rattle.exact.specs.Premised.{boundMeets, Met, premised}
+use Rattle.worked.specs.Whole.{floats}
+
+-- ---- the bank of P8: S = 50, T = 12
+abbrev eight : List ℤ
+eight = pos 3 ∷ pos 6 ∷ pos 2 ∷ negsuc 0 ∷ []
+
+p8-sums : (squares eight ≡ pos 50) × (sizes eight ≡ 12)
+unfolding sum
+p8-sums = (refl, refl)
+
+-- its samples, in both formats
+p8 : (b : Border) → Met binary64 b eight (pos 10 ∷ pos 20 ∷ pos 30 ∷ pos 40 ∷ []) 40
+unfolding sum badTaps
+p8 b = premised binary64 b eight (pos 10 ∷ pos 20 ∷ pos 30 ∷ pos 40 ∷ []) 40 refl
+
+p8-small : (b : Border) → Met binary32 b eight (pos 10 ∷ pos 20 ∷ pos 30 ∷ pos 40 ∷ []) 40
+unfolding sum badTaps
+p8-small b = premised binary32 b eight (pos 10 ∷ pos 20 ∷ pos 30 ∷ pos 40 ∷ []) 40 refl
+
+-- ---- the taps 1 1: S = 2, T = 2, with samples at the largest A, 2^50
+abbrev two : List ℤ
+two = pos 1 ∷ pos 1 ∷ []
+
+two-sums : (squares two ≡ pos 2) × (sizes two ≡ 2) × (boundMeets binary64 two 1125899906842625 ≡ false)
+unfolding sum
+two-sums = (refl, refl, refl)
+
+two-taps : (b : Border) → Met binary64 b two (pos 1125899906842624 ∷ negsuc 1125899906842623 ∷ pos 1 ∷ []) 1125899906842624
+unfolding sum badTaps
+two-taps b = premised binary64 b two (pos 1125899906842624 ∷ negsuc 1125899906842623 ∷ pos 1 ∷ []) 1125899906842624 refl
+
+-- ---- six taps: S = 250, T = 34, with samples at the largest A
+abbrev six : List ℤ
+six = pos 6 ∷ pos 12 ∷ pos 3 ∷ negsuc 3 ∷ pos 6 ∷ negsuc 2 ∷ []
+
+six-sums : (squares six ≡ pos 250) × (sizes six ≡ 34) × (boundMeets binary64 six 3895847428522 ≡ false)
+unfolding sum
+six-sums = (refl, refl, refl)
+
+abbrev loud : List ℤ
+loud = pos 3895847428521 ∷ negsuc 3895847428520 ∷ pos 3895847428521 ∷ pos 3895847428521 ∷ negsuc 3895847428520 ∷ negsuc 3895847428520 ∷ pos 0 ∷ []
+
+six-taps : (b : Border) → Met binary64 b six loud 3895847428521
+unfolding sum badTaps
+six-taps b = premised binary64 b six loud 3895847428521 refl
+
+-- ---- past the bound: samples of P8's bank some 4.3 times as large as it allows. The first place comes back one off from 50 times its sample
+abbrev far : List ℤ
+far = negsuc 134482488872867 ∷ pos 134482488872868 ∷ pos 134482488872868 ∷ negsuc 134482488872866 ∷ []
+
+past-bound : (boundMeets binary64 eight 134482488872868 ≡ false)
+    × (synthesised binary64 4 (floats eight) (floats (negsuc 0 ∷ negsuc 1 ∷ pos 6 ∷ negsuc 2 ∷ []))
+    (band binary64 (floats eight) 4 Wrap (floats far)) (band binary64 (floats (negsuc 0 ∷ negsuc 1 ∷ pos 6 ∷ negsuc 2 ∷ [])) 4 Wrap (floats far)) (replicate 4 plusZero)
+    ≡ floats (negsuc 6724124443643398 ∷ pos 6724124443643400 ∷ pos 6724124443643400 ∷ negsuc 6724124443643349 ∷ []))
+    × (pos 50 *ℤ negsuc 134482488872867 ≡ negsuc 6724124443643399)
+unfolding sum synthesised joined band analysed dot tab padded source ofInt add mul
+past-bound = (refl, refl, refl)
