@@ -1,11 +1,11 @@
 -- Laws of bounds: what taps and pairs can bring together in size, and that the one bound 2 A T T covers every sum on the way.
-use mathlib.Core.Path.{_≡_, ap}
+use mathlib.Core.Path.{ap}
 use Prim.Native.Nat.{ℕ, zero, suc, _+_, _*_, _≤_, _<_}
-use native.Mathlib.Nat.{le-trans, add-le-add, mul-le-mul-right, zero-mul, add-mul}
+use native.Mathlib.Nat.{le-trans, add-le-add, mul-le-mul-right}
 use native.Mathlib.Omega.{arith}
 use lib.IntN.{ℤ, natAbs}
 use Rattle.whole.specs.Sums.{sum}
-use Rattle.whole.specs.Terms.{through, alike, together, by-parity}
+use Rattle.whole.specs.Terms.{factor-ℕ, alike, together, by-parity}
 use Rattle.whole.specs.Integers.{naturals}
 use Rattle.exact.specs.Weights.{weight}
 use Rattle.exact.specs.Identity.{reach}
@@ -13,9 +13,6 @@ use Rattle.exact.specs.Identity.{reach}
 -- the sizes of F taps together
 abbrev pub weighs : ℕ → (ℕ → ℤ) → ℕ
 weighs F w = sum naturals F (λ k. natAbs (w k))
-
-pub times : (n : ℕ) (w : ℕ → ℕ) (c : ℕ) → sum naturals n (λ k. w k * c) ≡ sum naturals n w * c
-times n w c = through naturals naturals (λ (k : ℕ). k * c) (zero-mul c) (λ a b. add-mul a b c) n w
 
 -- the terms at places of one parity are no more than all
 class-le : (g e : ℕ) (w : ℕ → ℕ) → e < 2 → sum naturals g (λ t. w (2 * t + e)) ≤ sum naturals (2 * g) w
@@ -32,7 +29,7 @@ weight-le g u e m low high B he hg hu =
     let w : ℕ → ℕ = λ j. natAbs (high j) * B + natAbs (low j) * B in
     let p = reach naturals g u e m (λ j i. w j) he hg hu in
     let q = together naturals (2 * g) (λ j. natAbs (high j) * B) (λ j. natAbs (low j) * B) in
-    omega (arith, p, class-le g e w he, q, times (2 * g) (λ j. natAbs (high j)) B, times (2 * g) (λ j. natAbs (low j)) B)
+    omega (arith, p, class-le g e w he, q, factor-ℕ B (2 * g) (λ j. natAbs (high j)), factor-ℕ B (2 * g) (λ j. natAbs (low j)))
 
 -- what the one bound gives for a band and for a join
 pub bound-band : (A T B : ℕ) → 2 * A * T * T ≤ B → T * A ≤ B

@@ -6,7 +6,7 @@ use mathlib.Core.List.{List}
 use Prim.Native.Nat.{ℕ, zero, suc, _<_}
 use native.Mathlib.Omega.{arith}
 use lib.ListN.{length}
-use lib.Ieee.{Float, nan, binary64}
+use lib.Ieee.{Float, nan}
 use Rattle.numbers.specs.Words.{plusZero, whenDone}
 use Rattle.numbers.specs.Write.{length-tab, getD-tab}
 use Rattle.numbers.specs.Tests.{kept, renewed, refused}
@@ -16,8 +16,6 @@ use Rattle.bank.specs.Lengths.{Analysable}
 use Rattle.analysis.specs.declared.Analysis.{Analysis}
 use Rattle.analysis.specs.declared.Analysis.the-variants as analysis
 use Rattle.analysis.specs.Analyses as Analyses
-use Rattle.analysis.specs.Lines.{band}
-use Rattle.analysis.specs.Taps.{length-band}
 use Rattle.analysis.specs.Works.{Analysing}
 use Rattle.analysis.specs.Tested.{analysed-done, analysing, done-alone as done-analysis}
 use Rattle.synthesis.specs.declared.Synthesis.{Synthesis}
@@ -26,9 +24,9 @@ use Rattle.synthesis.specs.Syntheses as Syntheses
 use Rattle.synthesis.specs.Tested.{joined-done, done-alone as done-synthesis}
 use Rattle.exact.specs.declared.Back.{Back}
 use Rattle.exact.specs.declared.Back.the-variants as way
-use Rattle.exact.specs.Restoring.{squares, Cleared, Restored}
-use Rattle.exact.specs.Exact.{exact}
-use Rattle.exact.specs.Backs.{numberOf, answerOf, cleared, backFrom, Ruled, Returned}
+use Rattle.exact.specs.Restoring.{Cleared}
+use Rattle.exact.specs.Entries.{approxed, detailed, approx-length, detail-length, rejoined, entries-restore}
+use Rattle.exact.specs.Backs.{numberOf, answerOf, cleared, Ruled, Returned}
 
 module _ (f n a d s o : ℕ) where
   pub there-refused : (r : Analysis) → r ≡ Analyses.answerOf f n a d s → (r ≡ analysis.Done → ⊥) → way.Analysis r ≡ answerOf f n a d s o
@@ -105,15 +103,11 @@ module _ (bank : Bank) (line approx detail scratch out : List Float) where
       → Returned bank line approx detail scratch out way.Done a d s o
   returned-done {r} {there} {back} {a} {d} {s} {clear} {o} e z p c q = record {
     answer = sym z ∙ e;
-    approxes = approxed;
-    details = detailed;
+    approxes = approxed p went;
+    details = detailed p went;
     scratched = renewed _ _ (ap Analyses.numberOf went) (p .scratched);
-    joined = restored;
-    exact = λ z v A x y. (
-      refl,
-      subst (λ (l : List Float). Restored (bank .border) (squares z) v l) (sym restored)
-          (exact binary64 (bank .border) (bank .taps) (bank .low) (bank .high) line (cleared (length out)) z v A x (cleared-zeros (length out)) (length-tab (λ k. plusZero) (length out) ∙ y .placed)),
-    );
+    joined = rejoined p went q came ∙ rw c;
+    exact = λ z v A x y. (refl, entries-restore p went q came (rw c (cleared-zeros (length out))) z v A x);
   }
     where
       F : ℕ
@@ -125,21 +119,12 @@ module _ (bank : Bank) (line approx detail scratch out : List Float) where
       went : there ≡ analysis.Done
       went = p .answer ∙ passed .0
 
-      approxed : a ≡ band binary64 (bank .low) F (bank .border) line
-      approxed = renewed _ _ (ap Analyses.numberOf went) (p .approxes)
-
-      detailed : d ≡ band binary64 (bank .high) F (bank .border) line
-      detailed = renewed _ _ (ap Analyses.numberOf went) (p .details)
-
       ruled : Analysing F (length line) (length approx) (length detail) (length scratch)
       ruled = analysing F (length line) (length approx) (length detail) (length scratch) (passed .0)
 
       came : back ≡ synthesis.Done
       came =
-          let la : length a ≡ length approx = ap length approxed ∙ length-band binary64 (bank .low) F (bank .border) line ∙ sym (ruled .approxed) in
-          let ld : length d ≡ length detail = ap length detailed ∙ length-band binary64 (bank .high) F (bank .border) line ∙ sym (ruled .detailed) in
+          let la : length a ≡ length approx = approx-length p went ∙ sym (ruled .approxed) in
+          let ld : length d ≡ length detail = detail-length p went ∙ sym (ruled .detailed) in
           let lo : length clear ≡ length out = ap length c ∙ length-tab (λ k. plusZero) (length out) in
           q .answer ∙ rw (la, ld, lo) (passed .1)
-
-      restored : o ≡ backFrom bank line (length out)
-      restored = renewed _ _ (ap Syntheses.numberOf came) (q .joined) ∙ rw (approxed, detailed, c)

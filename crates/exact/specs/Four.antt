@@ -10,9 +10,10 @@ use native.Mathlib.Omega.{arith}
 use lib.ListN.{length, getD, List·getD-eq-default}
 use lib.IntN.{ℤ, pos, natAbs, _*ℤ_}
 use lib.Ieee.{Float, nan, Format, prec}
-use Rattle.numbers.specs.Words.{plusZero, at, tab}
-use Rattle.numbers.specs.Write.{length-tab, getD-tab}
+use Rattle.numbers.specs.Words.{plusZero, at}
+use Rattle.numbers.specs.Write.{getD-tab}
 use Rattle.numbers.specs.Places.{getD-any}
+use Rattle.whole.specs.Terms.{factor-ℕ}
 use Rattle.whole.specs.Floats.{Whole, Within, atℤ, Holds}
 use Rattle.whole.specs.Exact.{zero-whole}
 use Rattle.border.specs.declared.Border.{Border}
@@ -22,44 +23,41 @@ use Rattle.border.specs.Rule.{source, placeIn, valueOf, padded}
 use Rattle.bank.specs.Lengths.{pairs, lineLength}
 use Rattle.analysis.specs.Sums.{analysed}
 use Rattle.analysis.specs.Lines.{paddedAt, band}
+use Rattle.analysis.specs.Taps.{length-band}
 use Rattle.synthesis.specs.Sums.{joined}
 use Rattle.synthesis.specs.Lines.{synthesised}
 use Rattle.exact.specs.Restoring.{sizes, Cleared}
 use Rattle.exact.specs.Classes.{analysedℤ, Restores}
 use Rattle.exact.specs.Weights.{dot-within, join-within}
 use Rattle.exact.specs.Identity.{identity}
-use Rattle.exact.specs.Bounds.{weighs, times, weight-le, bound-band, bound-join}
+use Rattle.exact.specs.Bounds.{weighs, weight-le, bound-band, bound-join}
 
--- ---- taps as functions of their place
-module _ (f : Format) (g m : ℕ) (S : ℤ) (sl sh al ah x : ℕ → Float) (slℤ shℤ alℤ ahℤ xℤ : ℕ → ℤ) (A T : ℕ)
-    (wsl : (k : ℕ) → k < 2 * g → Whole (sl k) (slℤ k)) (wsh : (k : ℕ) → k < 2 * g → Whole (sh k) (shℤ k))
-    (wal : (k : ℕ) → k < 2 * g → Whole (al k) (alℤ k)) (wah : (k : ℕ) → k < 2 * g → Whole (ah k) (ahℤ k))
-    (tsl : weighs (2 * g) slℤ ≤ T) (tsh : weighs (2 * g) shℤ ≤ T) (tal : weighs (2 * g) alℤ ≤ T) (tah : weighs (2 * g) ahℤ ≤ T)
-    (wx : (q : ℕ) → Within (x q) (xℤ q) A) (bound : 2 * A * T * T ≤ 2 ^ prec f)
-    (zl : (k : ℕ) → 2 * g ≤ k → alℤ k ≡ pos 0) (zh : (k : ℕ) → 2 * g ≤ k → ahℤ k ≡ pos 0) (r : Restores g S slℤ shℤ alℤ ahℤ) where
-  band-within : (tap : ℕ → Float) (tapℤ : ℕ → ℤ) → ((k : ℕ) → k < 2 * g → Whole (tap k) (tapℤ k)) → weighs (2 * g) tapℤ ≤ T → (i : ℕ)
-      → Within (analysed f (2 * g) tap x i) (analysedℤ (2 * g) tapℤ xℤ i) (T * A)
+-- ---- taps, lines and bands as functions of their place
+module _ (f : Format) (g A T : ℕ) (bound : 2 * A * T * T ≤ 2 ^ prec f) (xℤ : ℕ → ℤ) where
+  band-within : (tap x : ℕ → Float) (tapℤ : ℕ → ℤ) → ((k : ℕ) → k < 2 * g → Whole (tap k) (tapℤ k)) → weighs (2 * g) tapℤ ≤ T → ((q : ℕ) → Within (x q) (xℤ q) A)
+      → (i : ℕ) → Within (analysed f (2 * g) tap x i) (analysedℤ (2 * g) tapℤ xℤ i) (T * A)
   unfolding analysed
-  band-within tap tapℤ wt t i =
-      let s = times (2 * g) (λ k. natAbs (tapℤ k)) A in
+  band-within tap x tapℤ wt t wx i =
+      let s = factor-ℕ A (2 * g) (λ k. natAbs (tapℤ k)) in
       let k : weighs (2 * g) tapℤ * A ≤ T * A = mul-le-mul-right A t in
       let d = dot-within f tap (λ j. x (2 * i + j)) tapℤ (λ j. xℤ (2 * i + j)) A (2 * g) wt (λ j l. wx (2 * i + j)) (2 * g) (le-refl (2 * g)) (omega (arith, s, k, bound-band A T (2 ^ prec f) bound)) in
       (d .0, omega (arith, d .1))
 
   -- a padded place that synthesis gives: 2 g - 2 .. 2 m - 1
-  restored : (a d : ℕ → Float) (held : Float) (P : ℕ) → ((i : ℕ) → i < m → a i ≡ analysed f (2 * g) al x i) → ((i : ℕ) → i < m → d i ≡ analysed f (2 * g) ah x i)
-      → Whole held (pos 0) → 2 * g ≤ P + 2 → P < 2 * m → Whole (joined f (2 * g) sl sh a d P held m) (S *ℤ xℤ P)
-  restored a d held P ea ed clear lo hi =
+  joined-whole : (m : ℕ) (S : ℤ) (low high a d : ℕ → Float) (slℤ shℤ alℤ ahℤ : ℕ → ℤ) (held : Float) (P : ℕ)
+      → ((k : ℕ) → k < 2 * g → Whole (low k) (slℤ k)) → ((k : ℕ) → k < 2 * g → Whole (high k) (shℤ k)) → weighs (2 * g) slℤ ≤ T → weighs (2 * g) shℤ ≤ T
+      → ((i : ℕ) → i < m → Within (a i) (analysedℤ (2 * g) alℤ xℤ i) (T * A)) → ((i : ℕ) → i < m → Within (d i) (analysedℤ (2 * g) ahℤ xℤ i) (T * A))
+      → ((k : ℕ) → 2 * g ≤ k → alℤ k ≡ pos 0) → ((k : ℕ) → 2 * g ≤ k → ahℤ k ≡ pos 0) → Restores g S slℤ shℤ alℤ ahℤ
+      → Whole held (pos 0) → 2 * g ≤ P + 2 → P < 2 * m → Whole (joined f (2 * g) low high a d P held m) (S *ℤ xℤ P)
+  joined-whole m S low high a d slℤ shℤ alℤ ahℤ held P wl wh tl th wa wd zl zh r clear lo hi =
       let u = P / 2 in
       let e = P % 2 in
       let split : 2 * u + e ≡ P = omega arith in
       let w = weight-le g u e m slℤ shℤ (T * A) (omega arith) (omega arith) (omega arith) in
-      let j = join-within f (2 * g) sl sh a d slℤ shℤ (analysedℤ (2 * g) alℤ xℤ) (analysedℤ (2 * g) ahℤ xℤ) (T * A) (T * A) (2 * u + e) held m wsl wsh
-      (λ i l. subst (λ (v : Float). Within v (analysedℤ (2 * g) alℤ xℤ i) (T * A)) (sym (ea i l)) (band-within al alℤ wal tal i))
-      (λ i l. subst (λ (v : Float). Within v (analysedℤ (2 * g) ahℤ xℤ i) (T * A)) (sym (ed i l)) (band-within ah ahℤ wah tah i)) clear
-      m (le-refl m) (le-trans w (bound-join A T (2 ^ prec f) (weighs (2 * g) shℤ) (weighs (2 * g) slℤ) bound tsh tsl)) in
-      subst (λ (Q : ℕ). Whole (joined f (2 * g) sl sh a d Q held m) (S *ℤ xℤ Q)) split
-      (subst (λ (z : ℤ). Whole (joined f (2 * g) sl sh a d (2 * u + e) held m) z) (identity g u e m S slℤ shℤ alℤ ahℤ xℤ (omega arith) (omega arith) (omega arith) zl zh r) (j .0))
+      let j = join-within f (2 * g) low high a d slℤ shℤ (analysedℤ (2 * g) alℤ xℤ) (analysedℤ (2 * g) ahℤ xℤ) (T * A) (T * A) (2 * u + e) held m wl wh wa wd clear
+      m (le-refl m) (le-trans w (bound-join A T (2 ^ prec f) (weighs (2 * g) shℤ) (weighs (2 * g) slℤ) bound th tl)) in
+      subst (λ (Q : ℕ). Whole (joined f (2 * g) low high a d Q held m) (S *ℤ xℤ Q)) split
+      (subst (λ (z : ℤ). Whole (joined f (2 * g) low high a d (2 * u + e) held m) z) (identity g u e m S slℤ shℤ alℤ ahℤ xℤ (omega arith) (omega arith) (omega arith) zl zh r) (j .0))
 
 -- ---- on lists
 -- 2 g whole taps whose sizes together are at most T
@@ -100,22 +98,27 @@ module _ (f : Format) (b : Border) (g : ℕ) (S : ℤ) (sl sh al ah s out : List
     (tsl : Taps g T sl slℤ) (tsh : Taps g T sh shℤ) (tal : Taps g T al alℤ) (tah : Taps g T ah ahℤ)
     (samples : Holds s v) (count : length v ≡ length s) (small : (i : ℕ) → i < length v → natAbs (atℤ v i) ≤ A) (bound : 2 * A * T * T ≤ 2 ^ prec f)
     (r : Restores g S (atℤ slℤ) (atℤ shℤ) (atℤ alℤ) (atℤ ahℤ)) (clear : Cleared out) (ruled : length out ≡ lineLength (pairs (length s) (2 * g)) (2 * g)) where
+  bands-within : {l : List Float} {z : List ℤ} → Taps g T l z → (i : ℕ) → i < pairs (length s) (2 * g)
+      → Within (at (band f l (2 * g) b s) i) (analysedℤ (2 * g) (atℤ z) (padded (pos 0) b v (2 * g - 2)) i) (T * A)
+  unfolding band
+  bands-within {l} {z} t i h =
+      rw (getD-tab (analysed f (2 * g) (at l) (paddedAt (2 * g) b s)) (pairs (length s) (2 * g)) i nan h)
+      (band-within f g A T bound (padded (pos 0) b v (2 * g - 2)) (at l) (paddedAt (2 * g) b s) (atℤ z) (taps-whole t) (taps-weigh t) (padded-within b s v A samples count small (2 * g - 2)) i)
+
   -- every place that synthesis gives holds S times what the padded line has there
   pub general : (p : ℕ) → p < length out
       → Whole (at (synthesised f (2 * g) sl sh (band f al (2 * g) b s) (band f ah (2 * g) b s) out) p) (S *ℤ padded (pos 0) b v (2 * g - 2) (2 * g - 2 + p))
-  unfolding synthesised band
+  unfolding synthesised
   general p h =
       let F = 2 * g in
-      let m = pairs (length s) F in
+      let low = band f al F b s in
+      let high = band f ah F b s in
       let there : p + (F - 2) ≡ F - 2 + p = omega arith in
-      let banded : (taps : List Float) (i : ℕ) → i < m → at (tab (analysed f F (at taps) (paddedAt F b s)) m) i ≡ analysed f F (at taps) (paddedAt F b s) i
-      = λ taps i l. getD-tab (analysed f F (at taps) (paddedAt F b s)) m i nan l in
       rw (
-        getD-tab (λ q. joined f F (at sl) (at sh) (at (band f al F b s)) (at (band f ah F b s)) (q + (F - 2)) (at out q) (length (band f al F b s))) (length out) p nan h,
-        length-tab (analysed f F (at al) (paddedAt F b s)) m,
+        getD-tab (λ q. joined f F (at sl) (at sh) (at low) (at high) (q + (F - 2)) (at out q) (length low)) (length out) p nan h,
+        length-band f al F b s,
         there,
       )
-      (restored f g m S (at sl) (at sh) (at al) (at ah) (paddedAt F b s) (atℤ slℤ) (atℤ shℤ) (atℤ alℤ) (atℤ ahℤ) (padded (pos 0) b v (F - 2)) A T
-      (taps-whole tsl) (taps-whole tsh) (taps-whole tal) (taps-whole tah) (taps-weigh tsl) (taps-weigh tsh) (taps-weigh tal) (taps-weigh tah)
-      (padded-within b s v A samples count small (F - 2)) bound (taps-past tal) (taps-past tah) r
-      (at (band f al F b s)) (at (band f ah F b s)) (at out p) (F - 2 + p) (banded al) (banded ah) (clear .clear p h) (omega arith) (omega arith))
+      (joined-whole f g A T bound (padded (pos 0) b v (F - 2)) (pairs (length s) F) S (at sl) (at sh) (at low) (at high) (atℤ slℤ) (atℤ shℤ) (atℤ alℤ) (atℤ ahℤ) (at out p) (F - 2 + p)
+      (taps-whole tsl) (taps-whole tsh) (taps-weigh tsl) (taps-weigh tsh) (bands-within tal) (bands-within tah) (taps-past tal) (taps-past tah) r
+      (clear .clear p h) (omega arith) (omega arith))

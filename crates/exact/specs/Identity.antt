@@ -3,50 +3,18 @@
 use mathlib.Core.Path.{_≡_, refl, sym, ap, _∙_}
 use mathlib.Core.Bool.{cond}
 use Prim.Native.Nat.{ℕ, suc, _+_, _-_, _*_, _≤_, _<_}
-use native.Mathlib.Decide.{decLt}
 use native.Mathlib.Omega.{arith}
-use borrow.Author.Tests.{lt-ltb, le-ltb, eq-eqb, ne-eqb}
+use borrow.Author.Tests.{eq-eqb, ne-eqb}
 use lib.Dec.{eqb}
-use lib.IntN.{ℤ, pos, _+ℤ_, _*ℤ_, +ℤ-comm, zero-*ℤ, *ℤ-zero}
+use lib.IntN.{ℤ, pos, _+ℤ_, _*ℤ_, +ℤ-comm, zero-*ℤ}
 use Rattle.numbers.specs.Tests.{cond-true, cond-false}
 use Rattle.whole.specs.Sums.{Adding, sum}
-use Rattle.whole.specs.Terms.{through, alike, together, exchange, window, only, reverse}
-use Rattle.whole.specs.Integers.{integers, add-mul, mul-add, mul-assoc}
+use Rattle.whole.specs.Terms.{factor, factor-behind, alike, together, exchange, window, only, reverse}
+use Rattle.whole.specs.Integers.{integers, add-mul, mul-assoc}
 use Rattle.synthesis.specs.Sums.{meets}
 use Rattle.synthesis.specs.Meets.{meets-yes, meets-before, meets-past}
+use Rattle.exact.specs.Moved.{moved-same, line-sum}
 use Rattle.exact.specs.Classes.{analysedℤ, joinsℤ, moved, class, Restores}
-
--- ---- moved taps
-pub moved-front : (w : ℕ → ℤ) (c y : ℕ) → y < c → moved w c y ≡ pos 0
-unfolding moved
-moved-front w c y h = simp (lt-ltb y c h)
-
-pub moved-at : (w : ℕ → ℤ) (c y k : ℕ) → y ≡ c + k → moved w c y ≡ w k
-unfolding moved
-moved-at w c y k h =
-    let e : y - c ≡ k = omega arith in
-    simp (le-ltb y c (omega arith), e)
-
--- the distance alone tells
-pub moved-same : (w : ℕ → ℤ) (c y c′ y′ : ℕ) → y + c′ ≡ y′ + c → moved w c y ≡ moved w c′ y′
-moved-same w c y c′ y′ h = go (decLt y c)
-  where
-    go : Dec (y < c) → moved w c y ≡ moved w c′ y′
-    go (yes l) = moved-front w c y l ∙ sym (moved-front w c′ y′ (omega arith))
-    go (no n) = moved-at w c y (y - c) (omega arith) ∙ sym (moved-at w c′ y′ (y - c) (omega arith))
-
--- a sum over taps that begin at place s of the line, as a sum over the line
-pub line-sum : (w x : ℕ → ℤ) (F s M : ℕ) → s + F ≤ M → ((k : ℕ) → F ≤ k → w k ≡ pos 0)
-    → sum integers F (λ k. w k *ℤ x (s + k)) ≡ sum integers M (λ q. moved w s q *ℤ x q)
-line-sum w x F s M h z = sym (
-    ap (λ (n : ℕ). sum integers n (λ q. moved w s q *ℤ x q)) whole
-    ∙ window integers s F (M - (s + F)) (λ q. moved w s q *ℤ x q)
-    (λ i l. ap (λ (v : ℤ). v *ℤ x i) (moved-front w s i l) ∙ zero-*ℤ (x i))
-    (λ i l. ap (λ (v : ℤ). v *ℤ x (s + F + i)) (moved-at w s (s + F + i) (F + i) (omega arith) ∙ z (F + i) (omega arith)) ∙ zero-*ℤ (x (s + F + i)))
-    ∙ alike integers F (λ k. moved w s (s + k) *ℤ x (s + k)) (λ k. w k *ℤ x (s + k)) (λ k l. ap (λ (v : ℤ). v *ℤ x (s + k)) (moved-at w s (s + k) k refl)))
-  where
-    whole : M ≡ s + F + (M - (s + F))
-    whole = omega arith
 
 -- ---- the pairs that reach a place
 -- The pairs that reach place 2 u + e are u, u - 1 and so on, g of them, by the taps e, e + 2 and so on.
@@ -87,7 +55,7 @@ gather M h l b c x =
   where
     times : (k : ℤ) (w : ℕ → ℤ) → k *ℤ sum integers M (λ q. w q *ℤ x q) ≡ sum integers M (λ q. k *ℤ w q *ℤ x q)
     times k w =
-        sym (through integers integers (λ (v : ℤ). k *ℤ v) (*ℤ-zero k) (mul-add k) M (λ q. w q *ℤ x q))
+        sym (factor k M (λ q. w q *ℤ x q))
         ∙ alike integers M (λ q. k *ℤ (w q *ℤ x q)) (λ q. k *ℤ w q *ℤ x q) (λ q l. sym (mul-assoc k (w q) (x q)))
 
 module _ (g u e m : ℕ) (S : ℤ) (sl sh al ah x : ℕ → ℤ) (he : e < 2) (hg : g ≤ suc u) (hu : u < m)
@@ -98,7 +66,7 @@ module _ (g u e m : ℕ) (S : ℤ) (sl sh al ah x : ℕ → ℤ) (he : e < 2) (h
       ∙ alike integers g (λ t. sh (2 * t + e) *ℤ analysedℤ (2 * g) ah x (u - t) +ℤ sl (2 * t + e) *ℤ analysedℤ (2 * g) al x (u - t)) (λ t. sum integers M (λ q. part t q *ℤ x q)) over-line
       ∙ exchange integers g M (λ t q. part t q *ℤ x q)
       ∙ alike integers M (λ q. sum integers g (λ t. part t q *ℤ x q)) (λ q. class g sl sh al ah e q P *ℤ x q)
-      (λ q l. through integers integers (λ (v : ℤ). v *ℤ x q) (zero-*ℤ (x q)) (λ a b. add-mul a b (x q)) g (λ t. part t q))
+      (λ q l. factor-behind (x q) g (λ t. part t q))
       ∙ only integers M P (λ q. class g sl sh al ah e q P *ℤ x q) (omega arith)
       (λ q n. ap (λ (v : ℤ). v *ℤ x q) (r .classes e q P he ∙ cond-false (eqb q P) S (pos 0) (ne-eqb q P n)) ∙ zero-*ℤ (x q))
       ∙ ap (λ (v : ℤ). v *ℤ x P) (r .classes e P P he ∙ cond-true (eqb P P) S (pos 0) (eq-eqb P P refl))

@@ -12,11 +12,11 @@ use lib.Dec.{eqb}
 use lib.IntN.{ℤ, pos, negℤ, _+ℤ_, _*ℤ_, one, +ℤ-comm, +ℤ-invr, *ℤ-zero, *ℤ-one, *ℤ-comm}
 use Rattle.numbers.specs.Tests.{cond-true, cond-false}
 use Rattle.whole.specs.Sums.{sum}
-use Rattle.whole.specs.Terms.{through, alike, together, cut, reverse, by-parity}
-use Rattle.whole.specs.Integers.{integers, mul-add, neg-mul, mul-middle}
+use Rattle.whole.specs.Terms.{factor, alike, together, cut, reverse, by-parity}
+use Rattle.whole.specs.Integers.{integers, neg-mul, mul-middle}
 use Rattle.exact.specs.Restoring.{alternate}
 use Rattle.exact.specs.Classes.{moved, Restores}
-use Rattle.exact.specs.Identity.{moved-front, moved-at, moved-same, line-sum}
+use Rattle.exact.specs.Moved.{moved-front, moved-at, moved-same, line-sum}
 
 -- ---- signs by parity
 parity : (j : ℕ) → (j % 2 ≡ 0) ⊎ (j % 2 ≡ 1)
@@ -153,7 +153,7 @@ module _ (g : ℕ) (low : ℕ → ℤ) (past : (j : ℕ) → 2 * g ≤ j → low
       high-class : (e y c : ℕ) → e < 2 → sum integers g (λ t. high (2 * t + e) *ℤ moved high c (2 * t + e + y)) ≡ sign (y + c) *ℤ corr g low (1 - e) c y
       high-class e y c h =
           alike integers g (λ t. high (2 * t + e) *ℤ moved high c (2 * t + e + y)) (λ t. sign (y + c) *ℤ term t) signed
-          ∙ through integers integers (λ (v : ℤ). sign (y + c) *ℤ v) (*ℤ-zero (sign (y + c))) (mul-add (sign (y + c))) g term
+          ∙ factor (sign (y + c)) g term
           ∙ ap (λ (v : ℤ). sign (y + c) *ℤ v) (reverse integers g term ∙ alike integers g (λ t. term (g - suc t)) (λ t. low (2 * t + (1 - e)) *ℤ moved low y (2 * t + (1 - e) + c)) from-end)
         where
           term : ℕ → ℤ

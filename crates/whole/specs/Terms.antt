@@ -2,16 +2,28 @@
 use mathlib.Core.Path.{_≡_, refl, sym, ap, _∙_}
 use mathlib.Core.Logic.{_≢_}
 use Prim.Native.Nat.{ℕ, zero, suc, _+_, _-_, _*_, _<_}
-use native.Mathlib.Nat.{add-zero, add-suc, le-step, lt-suc-self}
+use native.Mathlib.Nat.{add-zero, add-suc, le-step, lt-suc-self, zero-mul, add-mul as add-mul-ℕ}
 use native.Mathlib.Omega.{arith}
+use lib.IntN.{ℤ, _*ℤ_, zero-*ℤ, *ℤ-zero}
 use Rattle.whole.specs.Sums.{Adding, sum}
+use Rattle.whole.specs.Integers.{naturals, integers, add-mul, mul-add}
 
--- a map that keeps sums
-pub through : {A B : Type 0} (P : Adding A) (Q : Adding B) (h : A → B) → h (P .none) ≡ Q .none → ((a b : A) → h (P .plus a b) ≡ Q .plus (h a) (h b))
+-- a map that keeps sums goes through them
+through : {A B : Type 0} (P : Adding A) (Q : Adding B) (h : A → B) → h (P .none) ≡ Q .none → ((a b : A) → h (P .plus a b) ≡ Q .plus (h a) (h b))
     → (n : ℕ) (g : ℕ → A) → sum Q n (λ i. h (g i)) ≡ h (sum P n g)
 unfolding sum
 through P Q h z e zero g = sym z
 through P Q h z e (suc n) g = ap (λ v. Q .plus v (h (g n))) (through P Q h z e n g) ∙ sym (e (sum P n g) (g n))
+
+-- a factor does
+pub factor : (k : ℤ) (n : ℕ) (g : ℕ → ℤ) → sum integers n (λ i. k *ℤ g i) ≡ k *ℤ sum integers n g
+factor k = through integers integers (λ (v : ℤ). k *ℤ v) (*ℤ-zero k) (mul-add k)
+
+pub factor-behind : (k : ℤ) (n : ℕ) (g : ℕ → ℤ) → sum integers n (λ i. g i *ℤ k) ≡ sum integers n g *ℤ k
+factor-behind k = through integers integers (λ (v : ℤ). v *ℤ k) (zero-*ℤ k) (λ a b. add-mul a b k)
+
+pub factor-ℕ : (k n : ℕ) (g : ℕ → ℕ) → sum naturals n (λ i. g i * k) ≡ sum naturals n g * k
+factor-ℕ k = through naturals naturals (λ (v : ℕ). v * k) (zero-mul k) (λ a b. add-mul-ℕ a b k)
 
 module _ {A : Type 0} (P : Adding A) where
   idr : (a : A) → P .plus a (P .none) ≡ a
