@@ -424,8 +424,9 @@ def there(name, bank, line, more=0):
     S = sum(whole(t) ** 2 for t in bank.low)
     want = [S * whole(x) for x in line] + ([S * whole(sample(bank.border, line, n))] if n % 2 else [])
     return premises(bank.low, line, bank.high), [whole(x) for x in o] == want
-for b in BORDERS: assert there('P8: ' + b, Bank(low8, mirror(low8), b), [10.0, 20.0, 30.0, 40.0], 1) == (True, True)
-for b in BORDERS: assert there('five samples, ' + b, Bank(low8, mirror(low8), b), [5.0, -0.0, 3.0, -4.0, 9.0]) == (True, True)
+for b in BORDERS:
+    assert there('P8: ' + b, Bank(low8, mirror(low8), b), [10.0, 20.0, 30.0, 40.0], 1) == (True, True)
+    assert there('five samples, ' + b, Bank(low8, mirror(low8), b), [5.0, -0.0, 3.0, -4.0, 9.0]) == (True, True)
 assert there('taps 1 1, the largest A', Bank([1.0, 1.0], [1.0, -1.0], 'Clamp'), [2.0 ** 50, -2.0 ** 50, 1.0]) == (True, True)
 low6, most = [6.0, 12.0, 3.0, -4.0, 6.0, -3.0], 3895847428521
 assert 2 * most * 34 ** 2 <= 2 ** 53 < 2 * (most + 1) * 34 ** 2 and sum(abs(t) for t in low6) == 34

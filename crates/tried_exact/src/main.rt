@@ -5,8 +5,7 @@ mod returned;
 mod unrestored;
 
 fn main() {
-    restored::even();
-    restored::odd();
+    restored::four_taps();
     restored::two_taps();
     restored::six_taps();
     unrestored::cases();

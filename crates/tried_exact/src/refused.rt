@@ -1,55 +1,46 @@
 // Refusals of there_and_back: those of the way there come first, then those of the way back, and the sevens stay.
-ghost use Prim.Native.Nat.{_≤_};
+use crate::returned::lent;
 use crate::returned::of_back;
-use crate::returned::returned;
-use bank::Bank;
-use border::Border;
 use exact::back_answer;
+use trying::calls::counted;
 use trying::print::heading;
 
-// A line, bands, scratch and output of the lengths told.
-fn lent(name: &[u8], taps: usize, n: usize, a: usize, d: usize, s: usize, o: usize)
-    requires { ⌜ (n ≤ 8) × (a ≤ 8) × (d ≤ 8) × (s ≤ 8) × (o ≤ 8) ⌝ }
-{
-    let bank = Bank {
-        low: [1.0f64; 64],
-        high: [1.0f64; 64],
-        taps,
-        border: Border::Wrap,
-    };
-    let line = [1.0f64; 8];
-    let mut approx = [7.0f64; 8];
-    let mut detail = [7.0f64; 8];
-    let mut scratch = [7.0f64; 8];
-    let mut out = [7.0f64; 8];
-    returned(
-        name,
-        bank,
-        &line[..n],
-        &mut approx[..a],
-        &mut detail[..d],
-        &mut scratch[..s],
-        &mut out[..o],
-    );
-}
-
 pub fn lengths() {
-    lent(b"3 taps, all wrong", 3, 2, 1, 3, 1, 1);
-    lent(b"4 taps, 3 samples, all wrong", 4, 3, 1, 2, 1, 1);
+    let two = [1.0f64; 2];
+    let three = [1.0f64; 3];
+    let four = [1.0f64; 4];
+    lent(b"3 taps, all wrong", counted(3), &two, 1, 3, 1, 1);
+    lent(
+        b"4 taps, 3 samples, all wrong",
+        counted(4),
+        &three,
+        1,
+        2,
+        1,
+        1,
+    );
     lent(
         b"approximations, details, scratch and output wrong",
-        4,
-        4,
+        counted(4),
+        &four,
         2,
         4,
         1,
         1,
     );
-    lent(b"details, scratch and output wrong", 4, 4, 3, 4, 1, 1);
-    lent(b"scratch and output wrong", 4, 4, 3, 3, 7, 1);
-    lent(b"output too short", 4, 4, 3, 3, 8, 3);
-    lent(b"output too long", 4, 4, 3, 3, 8, 5);
-    lent(b"no output", 4, 4, 3, 3, 8, 0);
+    lent(
+        b"details, scratch and output wrong",
+        counted(4),
+        &four,
+        3,
+        4,
+        1,
+        1,
+    );
+    lent(b"scratch and output wrong", counted(4), &four, 3, 3, 7, 1);
+    lent(b"output too short", counted(4), &four, 3, 3, 8, 3);
+    lent(b"output too long", counted(4), &four, 3, 3, 8, 5);
+    lent(b"no output", counted(4), &four, 3, 3, 8, 0);
 }
 
 fn told(name: &[u8], f: usize, n: usize, a: usize, d: usize, s: usize, o: usize) {

@@ -1,4 +1,5 @@
 // A call of there_and_back, with its answer and every lent buffer after it.
+ghost use Prim.Native.Nat.{_≤_};
 use analysis::Analysis;
 use bank::Bank;
 use exact::Back;
@@ -16,7 +17,7 @@ pub fn of_back(a: Back) {
     }
 }
 
-pub fn returned(
+fn returned(
     name: &[u8],
     bank: Bank,
     line: &[f64],
@@ -31,4 +32,23 @@ pub fn returned(
     floats(b"detail", detail);
     floats(b"scratch", scratch);
     floats(b"out", out);
+}
+
+// Bands, scratch and output of the lengths told, all sevens.
+pub fn lent(name: &[u8], bank: Bank, line: &[f64], a: usize, d: usize, s: usize, o: usize)
+    requires { ⌜ (a ≤ 8) × (d ≤ 8) × (s ≤ 16) × (o ≤ 8) ⌝ }
+{
+    let mut approx = [7.0f64; 8];
+    let mut detail = [7.0f64; 8];
+    let mut scratch = [7.0f64; 16];
+    let mut out = [7.0f64; 8];
+    returned(
+        name,
+        bank,
+        line,
+        &mut approx[..a],
+        &mut detail[..d],
+        &mut scratch[..s],
+        &mut out[..o],
+    );
 }

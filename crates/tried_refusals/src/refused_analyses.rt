@@ -6,6 +6,7 @@ use bank::making::bank;
 use border::Border;
 use trying::answers::of_analysis;
 use trying::calls::analysed;
+use trying::calls::counted;
 use trying::print::heading;
 
 // A line, bands and scratch of the lengths told.
@@ -24,16 +25,6 @@ fn lent(name: &[u8], bank: Bank, n: usize, a: usize, d: usize, s: usize)
         &mut detail[..d],
         &mut scratch[..s],
     );
-}
-
-// A bank whose count of taps nothing has tested.
-fn counted(taps: usize) -> Bank {
-    Bank {
-        low: [1.0f64; 64],
-        high: [1.0f64; 64],
-        taps,
-        border: Border::Wrap,
-    }
 }
 
 pub fn taps() {

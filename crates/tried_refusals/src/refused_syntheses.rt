@@ -1,9 +1,8 @@
 // Refused syntheses: where several tests fail the first answers, and the sevens stay.
 ghost use Prim.Native.Nat.{_≤_};
-use bank::Bank;
-use border::Border;
 use synthesis::synthesis_answer;
 use trying::answers::of_synthesis;
+use trying::calls::counted;
 use trying::calls::synthesised;
 use trying::print::heading;
 
@@ -11,16 +10,16 @@ use trying::print::heading;
 fn lent(name: &[u8], taps: usize, a: usize, d: usize, o: usize)
     requires { ⌜ (a ≤ 4) × (d ≤ 4) × (o ≤ 4) ⌝ }
 {
-    let bank = Bank {
-        low: [1.0f64; 64],
-        high: [1.0f64; 64],
-        taps,
-        border: Border::Wrap,
-    };
     let approx = [1.0f64; 4];
     let detail = [1.0f64; 4];
     let mut out = [7.0f64; 4];
-    synthesised(name, bank, &approx[..a], &detail[..d], &mut out[..o]);
+    synthesised(
+        name,
+        counted(taps),
+        &approx[..a],
+        &detail[..d],
+        &mut out[..o],
+    );
 }
 
 pub fn refused() {

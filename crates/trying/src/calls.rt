@@ -10,6 +10,16 @@ use border::Border;
 use convolution::convolve;
 use synthesis::synthesise;
 
+// A bank whose count of taps nothing has tested.
+pub fn counted(taps: usize) -> Bank {
+    Bank {
+        low: [1.0f64; 64],
+        high: [1.0f64; 64],
+        taps,
+        border: Border::Wrap,
+    }
+}
+
 pub fn analysed(
     name: &[u8],
     bank: Bank,

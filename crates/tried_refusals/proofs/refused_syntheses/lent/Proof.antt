@@ -6,6 +6,9 @@ use borrow.Author.Needs.{needs}
 use Rattle.tried_refusals.proofs.refused_syntheses.lent.Statement.{statement}
 use Rattle.tried_refusals.proofs.refused_syntheses.lent.Tie as tie
 
+counted-requires : tie.Need-counted-requires
+counted-requires c κs = search needs
+
 array-share-prefix-approx : tie.Need-array-share-prefix-approx
 array-share-prefix-approx c = search needs
 
@@ -34,6 +37,7 @@ pub lent-spec : {M : Type 1} → statement M
 lent-spec =
     tie.close
     (tie.spec
+    counted-requires
     array-share-prefix-approx
     slice-aggregate-synthesised
     array-share-prefix-detail
