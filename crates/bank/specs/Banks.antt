@@ -30,13 +30,20 @@ answerOf low high = cond (badTaps low || not (eqb high low)) Taps Done
 abbrev pub zeros : List Float
 zeros = replicate 64 plusZero
 
--- signs alternate over j: plus at even j, minus at odd
-abbrev pub signed : ℕ → Float → Float
-signed j x = cond (eqb (j % 2) 0) x (neg x)
+-- signs alternate over j: plus at even j, minus at odd, of numbers of any kind with their negation
+abbrev pub alternate : {A : Type 0} → (A → A) → ℕ → A → A
+alternate negated j x = cond (eqb (j % 2) 0) x (negated x)
 
 -- the mirror rule: high tap j is low tap f - 1 - j with the sign of j
+abbrev pub mirrorOf : {A : Type 0} → (A → A) → (ℕ → A) → ℕ → ℕ → A
+mirrorOf negated low f j = alternate negated j (low (f - 1 - j))
+
+-- both of floats
+abbrev pub signed : ℕ → Float → Float
+signed j x = alternate neg j x
+
 abbrev pub mirror : List Float → ℕ → Float
-mirror low j = signed j (at low (length low - 1 - j))
+mirror low j = mirrorOf neg (at low) (length low) j
 
 -- a bank by its fields
 abbrev pub heldIn : List Float → List Float → ℕ → Border → Bank

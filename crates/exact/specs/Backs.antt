@@ -11,10 +11,9 @@ use Rattle.bank.specs.Lengths.{pairs, paddedLength, lineLength}
 use Rattle.analysis.specs.Analyses as Analyses
 use Rattle.analysis.specs.Lines.{band, paddedInto}
 use Rattle.synthesis.specs.Syntheses as Syntheses
-use Rattle.synthesis.specs.Lines.{synthesised}
 use Rattle.exact.specs.declared.Back.{Back}
 use Rattle.exact.specs.declared.Back.the-variants.{Done, Analysis, Synthesis}
-use Rattle.exact.specs.Restoring.{squares, Premises, Restored}
+use Rattle.exact.specs.Restoring.{squares, Premises, thereAndBack, Restored}
 
 -- document 01's number of an answer, and the values that it carries: those of the way that was refused
 abbrev pub numberOf : Back → ℕ
@@ -38,11 +37,9 @@ answerOf f n a d s o =
 abbrev pub cleared : ℕ → List Float
 cleared n = tab (λ p. plusZero) n
 
--- what the entry makes of its output: synthesis onto nothing, of the bands of the line
+-- what the entry makes of its output, which it clears
 abbrev pub backFrom : Bank → List Float → ℕ → List Float
-backFrom bank line o =
-    synthesised binary64 (bank .taps) (bank .low) (bank .high)
-    (band binary64 (bank .low) (bank .taps) (bank .border) line) (band binary64 (bank .high) (bank .taps) (bank .border) line) (cleared o)
+backFrom bank line o = thereAndBack binary64 (bank .taps) (bank .low) (bank .high) (bank .low) (bank .high) (bank .border) line (cleared o)
 
 -- buffers of the ruled lengths for n samples and f taps
 pub record Ruled (n f a d s o : ℕ) : Type 0 where

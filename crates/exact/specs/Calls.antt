@@ -42,7 +42,7 @@ module _ (f n a d s o : ℕ) where
   both-done p q = rw (← p, ← q) refl
 
   -- both ways are done, or the answer is a refusal
-  pub decided : ((Analyses.answerOf f n a d s ≡ analysis.Done) × (Syntheses.answerOf f a d o ≡ synthesis.Done)) ⊎ (0 < numberOf (answerOf f n a d s o))
+  decided : ((Analyses.answerOf f n a d s ≡ analysis.Done) × (Syntheses.answerOf f a d o ≡ synthesis.Done)) ⊎ (0 < numberOf (answerOf f n a d s o))
   unfolding answerOf
   decided = go (Analyses.numberOf there) (Syntheses.numberOf back) refl refl
     where
@@ -59,7 +59,7 @@ module _ (f n a d s o : ℕ) where
       go (suc j) k p q = inr (omega arith)
 
 -- what meets the premises is taken, where the buffers have the ruled lengths
-pub met : (f n a d s o : ℕ) → Analysable n f → Ruled n f a d s o → answerOf f n a d s o ≡ way.Done
+met : (f n a d s o : ℕ) → Analysable n f → Ruled n f a d s o → answerOf f n a d s o ≡ way.Done
 met f n a d s o p q =
     sym (both-done f n a d s o
     (sym (analysed-done f n a d s (record { ready = p; approxed = q .approxed; detailed = q .detailed; room = q .room })))

@@ -5,8 +5,7 @@ use mathlib.Core.Bool.{cond}
 use Prim.Native.Nat.{ℕ, _+_, _-_, _*_, _<_}
 use lib.Dec.{ltb, eqb}
 use lib.IntN.{ℤ, pos, _+ℤ_, _*ℤ_}
-use Rattle.whole.specs.Sums.{sum}
-use Rattle.whole.specs.Integers.{integers}
+use Rattle.whole.specs.Sums.{integers, sum}
 use Rattle.synthesis.specs.Sums.{meets}
 
 -- place i of a band: tap k times place 2 i + k of the line
@@ -21,10 +20,13 @@ joinsℤ F low high a d P i = cond (meets F P i) (high (P - 2 * i) *ℤ d i +ℤ
 unfoldable pub moved : (ℕ → ℤ) → ℕ → ℕ → ℤ
 moved w c y = cond (ltb y c) (pos 0) (w (y - c))
 
--- over the synthesis taps at places e, e + 2 and so on: each times the analysis tap that lies y - c further on, low with low plus high with high
+-- over the synthesis taps s at places e, e + 2 and so on: each times the analysis tap of a that lies y - c further on
+abbrev pub share : ℕ → (ℕ → ℤ) → (ℕ → ℤ) → ℕ → ℕ → ℕ → ℤ
+share g s a e y c = sum integers g (λ t. s (2 * t + e) *ℤ moved a c (2 * t + e + y))
+
+-- low with low plus high with high
 abbrev pub class : ℕ → (ℕ → ℤ) → (ℕ → ℤ) → (ℕ → ℤ) → (ℕ → ℤ) → ℕ → ℕ → ℕ → ℤ
-class g sl sh al ah e y c =
-    sum integers g (λ t. sl (2 * t + e) *ℤ moved al c (2 * t + e + y) +ℤ sh (2 * t + e) *ℤ moved ah c (2 * t + e + y))
+class g sl sh al ah e y c = share g sl al e y c +ℤ share g sh ah e y c
 
 -- over the even places, and again over the odd ones: S at distance zero, and 0 at every other
 pub record Restores (g : ℕ) (S : ℤ) (sl sh al ah : ℕ → ℤ) : Type 0 where

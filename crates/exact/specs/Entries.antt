@@ -1,4 +1,4 @@
--- What the two entries promise, one after the other: a line's bands joined, and where the output was cleared and the premises hold, the line restored exactly (`entries-restore`).
+-- Laws of what the two entries promise, one after the other: a line's bands are joined, and where the output was cleared and the premises hold, the line is restored exactly (`entries-restore`).
 use mathlib.Core.Path.{_≡_, ap, _∙_, subst, sym}
 use mathlib.Core.List.{List}
 use Prim.Native.Nat.{ℕ}
@@ -17,9 +17,8 @@ use Rattle.analysis.specs.Taps.{length-band}
 use Rattle.synthesis.specs.declared.Synthesis.{Synthesis}
 use Rattle.synthesis.specs.declared.Synthesis.the-variants as synthesis
 use Rattle.synthesis.specs.Syntheses as Syntheses
-use Rattle.synthesis.specs.Lines.{synthesised}
 use Rattle.synthesis.specs.Tested.{joinable}
-use Rattle.exact.specs.Restoring.{squares, Premises, Cleared, Restored}
+use Rattle.exact.specs.Restoring.{squares, Premises, Cleared, thereAndBack, Restored}
 use Rattle.exact.specs.Exact.{exact}
 
 module _ {bank : Bank} {line approx detail scratch : List Float} {there : Analysis} {a d s : List Float}
@@ -37,8 +36,7 @@ module _ {bank : Bank} {line approx detail scratch : List Float} {there : Analys
   detail-length = ap length detailed ∙ length-band binary64 (bank .high) (bank .taps) (bank .border) line
 
   module _ {out : List Float} {back : Synthesis} {o : List Float} (q : Syntheses.Synthesised bank a d out back o) (came : back ≡ synthesis.Done) where
-    pub rejoined : o ≡ synthesised binary64 (bank .taps) (bank .low) (bank .high)
-        (band binary64 (bank .low) (bank .taps) (bank .border) line) (band binary64 (bank .high) (bank .taps) (bank .border) line) out
+    pub rejoined : o ≡ thereAndBack binary64 (bank .taps) (bank .low) (bank .high) (bank .low) (bank .high) (bank .border) line out
     rejoined = renewed _ _ (ap Syntheses.numberOf came) (q .joined) ∙ rw (approxed, detailed)
 
     pub entries-restore : Cleared out → (z v : List ℤ) (A : ℕ) → Premises binary64 (bank .taps) (bank .low) (bank .high) line z v A → Restored (bank .border) (squares z) v o

@@ -1,4 +1,4 @@
--- Four lists of whole taps that meet `Restores`, in floats: every place that synthesis gives of an analysis holds S times what the padded line has there (`general`).
+-- Laws of four lists of whole taps that meet `Restores`, in floats: every place that synthesis gives of an analysis holds S times what the padded line has there (`general`).
 -- The float sums are the whole numbers' sums; of the border nothing is asked but that what stands there is a sample or zero.
 use mathlib.Core.Path.{_≡_, sym, subst}
 use mathlib.Core.Bool.{false}
@@ -26,7 +26,7 @@ use Rattle.analysis.specs.Lines.{paddedAt, band}
 use Rattle.analysis.specs.Taps.{length-band}
 use Rattle.synthesis.specs.Sums.{joined}
 use Rattle.synthesis.specs.Lines.{synthesised}
-use Rattle.exact.specs.Restoring.{sizes, Cleared}
+use Rattle.exact.specs.Restoring.{sizes, Cleared, thereAndBack}
 use Rattle.exact.specs.Classes.{analysedℤ, Restores}
 use Rattle.exact.specs.Weights.{dot-within, join-within}
 use Rattle.exact.specs.Identity.{identity}
@@ -54,10 +54,10 @@ module _ (f : Format) (g A T : ℕ) (bound : 2 * A * T * T ≤ 2 ^ prec f) (xℤ
       let e = P % 2 in
       let split : 2 * u + e ≡ P = omega arith in
       let w = weight-le g u e m slℤ shℤ (T * A) (omega arith) (omega arith) (omega arith) in
-      let j = join-within f (2 * g) low high a d slℤ shℤ (analysedℤ (2 * g) alℤ xℤ) (analysedℤ (2 * g) ahℤ xℤ) (T * A) (T * A) (2 * u + e) held m wl wh wa wd clear
+      let j = join-within f (2 * g) low high a d slℤ shℤ (analysedℤ (2 * g) alℤ xℤ) (analysedℤ (2 * g) ahℤ xℤ) (T * A) (2 * u + e) held m wl wh wa wd clear
       m (le-refl m) (le-trans w (bound-join A T (2 ^ prec f) (weighs (2 * g) shℤ) (weighs (2 * g) slℤ) bound th tl)) in
       subst (λ (Q : ℕ). Whole (joined f (2 * g) low high a d Q held m) (S *ℤ xℤ Q)) split
-      (subst (λ (z : ℤ). Whole (joined f (2 * g) low high a d (2 * u + e) held m) z) (identity g u e m S slℤ shℤ alℤ ahℤ xℤ (omega arith) (omega arith) (omega arith) zl zh r) (j .0))
+      (subst (λ (z : ℤ). Whole (joined f (2 * g) low high a d (2 * u + e) held m) z) (identity g u e m xℤ (omega arith) (omega arith) S slℤ shℤ alℤ ahℤ (omega arith) zl zh r) (j .0))
 
 -- ---- on lists
 -- 2 g whole taps whose sizes together are at most T
@@ -107,7 +107,7 @@ module _ (f : Format) (b : Border) (g : ℕ) (S : ℤ) (sl sh al ah s out : List
 
   -- every place that synthesis gives holds S times what the padded line has there
   pub general : (p : ℕ) → p < length out
-      → Whole (at (synthesised f (2 * g) sl sh (band f al (2 * g) b s) (band f ah (2 * g) b s) out) p) (S *ℤ padded (pos 0) b v (2 * g - 2) (2 * g - 2 + p))
+      → Whole (at (thereAndBack f (2 * g) al ah sl sh b s out) p) (S *ℤ padded (pos 0) b v (2 * g - 2) (2 * g - 2 + p))
   unfolding synthesised
   general p h =
       let F = 2 * g in

@@ -1,16 +1,18 @@
 -- Restoring is exact. Definitions: Restoring, the statement; Classes, the condition of four lists; Backs, what running there and back promises.
--- Laws: Weights, Moved, Identity, Mirror, Bounds, Four, Exact, the proof; Premised, the premises by computation; Entries, Calls, Unique, what holds of the code.
+-- Laws: Weights, Moved, Reach, Identity, Signs, Mirror, Bounds, Four, Exact, the proof; Made, of banks; Entries, Calls, Unique, of the code.
 pub mod Restoring
 pub mod Classes
 pub mod Backs
 pub mod Weights
 pub mod Moved
+pub mod Reach
 pub mod Identity
+pub mod Signs
 pub mod Mirror
 pub mod Bounds
 pub mod Four
 pub mod Exact
-pub mod Premised
+pub mod Made
 pub mod Entries
 pub mod Calls
 pub mod Unique

@@ -1,7 +1,7 @@
 -- Laws of a mirror bank in whole numbers: low taps whose products at even distances sum to zero, with high taps by the mirror rule and the same taps both ways, meet `Restores`.
 -- In each class the high taps give, up to the sign of the distance, what the low taps of the other parity give: at odd distances the two cancel, at even ones they make up the whole sum.
 use mathlib.Core.Path.{_≡_, sym, ap, _∙_}
-use mathlib.Core.Logic.{_≢_, _⊎_, inl, inr, ⊎-elim}
+use mathlib.Core.Logic.{_≢_, ⊎-elim}
 use mathlib.Core.Bool.{cond}
 use Prim.Native.Nat.{ℕ, zero, suc, _+_, _-_, _*_, _/_, _%_, _≤_, _<_}
 use native.Mathlib.Nat.{add-zero}
@@ -9,68 +9,20 @@ use native.Mathlib.Decide.{decLt, ℕ-discrete}
 use native.Mathlib.Omega.{arith}
 use borrow.Author.Tests.{eq-eqb, ne-eqb}
 use lib.Dec.{eqb}
-use lib.IntN.{ℤ, pos, negℤ, _+ℤ_, _*ℤ_, one, +ℤ-comm, +ℤ-invr, *ℤ-zero, *ℤ-one, *ℤ-comm}
+use lib.IntN.{ℤ, pos, negℤ, _+ℤ_, _*ℤ_, +ℤ-comm, +ℤ-invr, *ℤ-zero, *ℤ-comm}
 use Rattle.numbers.specs.Tests.{cond-true, cond-false}
-use Rattle.whole.specs.Sums.{sum}
-use Rattle.whole.specs.Terms.{factor, alike, together, cut, reverse, by-parity}
-use Rattle.whole.specs.Integers.{integers, neg-mul, mul-middle}
-use Rattle.exact.specs.Restoring.{alternate}
-use Rattle.exact.specs.Classes.{moved, Restores}
+use Rattle.whole.specs.Sums.{integers, sum}
+use Rattle.whole.specs.Terms.{factor, middle, alike, cut, reverse, by-parity}
+use Rattle.whole.specs.Integers.{products}
+use Rattle.bank.specs.Banks.{alternate}
+use Rattle.exact.specs.Signs.{parity, sign, alternate-even, alternate-odd, alternate-sign, sign-same, sign-mul}
+use Rattle.exact.specs.Classes.{moved, share, Restores}
 use Rattle.exact.specs.Moved.{moved-front, moved-at, moved-same, line-sum}
 
--- ---- signs by parity
-parity : (j : ℕ) → (j % 2 ≡ 0) ⊎ (j % 2 ≡ 1)
-parity j = go (ℕ-discrete (j % 2) 0)
-  where
-    go : Dec (j % 2 ≡ 0) → (j % 2 ≡ 0) ⊎ (j % 2 ≡ 1)
-    go (yes p) = inl p
-    go (no n) = inr (omega arith)
-
-abbrev sign : ℕ → ℤ
-sign j = alternate j (pos 1)
-
-alternate-even : (j : ℕ) (z : ℤ) → j % 2 ≡ 0 → alternate j z ≡ z
-alternate-even j z h = cond-true (eqb (j % 2) 0) z (negℤ z) (eq-eqb (j % 2) 0 h)
-
-alternate-odd : (j : ℕ) (z : ℤ) → j % 2 ≡ 1 → alternate j z ≡ negℤ z
-alternate-odd j z h = let n : j % 2 ≢ 0 = omega arith in cond-false (eqb (j % 2) 0) z (negℤ z) (ne-eqb (j % 2) 0 n)
-
-one-mul : (z : ℤ) → pos 1 *ℤ z ≡ z
-unfolding one
-one-mul z = *ℤ-comm (pos 1) z ∙ *ℤ-one z
-
-alternate-sign : (j : ℕ) (z : ℤ) → alternate j z ≡ sign j *ℤ z
-alternate-sign j z =
-    ⊎-elim
-    (λ p. alternate-even j z p ∙ sym (ap (λ (s : ℤ). s *ℤ z) (alternate-even j (pos 1) p) ∙ one-mul z))
-    (λ p. alternate-odd j z p ∙ sym (ap (λ (s : ℤ). s *ℤ z) (alternate-odd j (pos 1) p) ∙ neg-mul (pos 1) z ∙ ap negℤ (one-mul z)))
-    (parity j)
-
-sign-same : (i j : ℕ) → i % 2 ≡ j % 2 → sign i ≡ sign j
-sign-same i j h = ap (λ (r : ℕ). cond (eqb r 0) (pos 1) (negℤ (pos 1))) h
-
-sign-mul : (i j : ℕ) → sign i *ℤ sign j ≡ sign (i + j)
-sign-mul i j = sym (alternate-sign i (sign j)) ∙ ⊎-elim even odd (parity i)
-  where
-    even : i % 2 ≡ 0 → alternate i (sign j) ≡ sign (i + j)
-    even p = alternate-even i (sign j) p ∙ sign-same j (i + j) (omega arith)
-
-    odd : i % 2 ≡ 1 → alternate i (sign j) ≡ sign (i + j)
-    odd p =
-        alternate-odd i (sign j) p
-        ∙ ⊎-elim
-        (λ q. ap negℤ (alternate-even j (pos 1) q) ∙ sym (alternate-odd (i + j) (pos 1) (omega arith)))
-        (λ q. ap negℤ (alternate-odd j (pos 1) q) ∙ sym (alternate-even (i + j) (pos 1) (omega arith)))
-        (parity j)
-
--- ---- the low taps
--- those at places of parity e, each times the one y - c further on
-abbrev corr : ℕ → (ℕ → ℤ) → ℕ → ℕ → ℕ → ℤ
-corr g low e y c = sum integers g (λ t. low (2 * t + e) *ℤ moved low c (2 * t + e + y))
-
+-- ---- the low taps, each times the one y - c further on
 module _ (g : ℕ) (low : ℕ → ℤ) (past : (j : ℕ) → 2 * g ≤ j → low j ≡ pos 0) where
   -- the same pairs of taps from the other end: a distance and back
-  turn-on : (e e′ y c k : ℕ) → e′ < 2 → c + e′ ≡ y + e + 2 * k → corr g low e y c ≡ corr g low e′ c y
+  turn-on : (e e′ y c k : ℕ) → e′ < 2 → c + e′ ≡ y + e + 2 * k → share g low low e y c ≡ share g low low e′ c y
   turn-on e e′ y c k h q =
       alike integers g (λ t. low (2 * t + e) *ℤ moved low c (2 * t + e + y)) (λ t. moved there k t *ℤ here t)
       (λ t l. *ℤ-comm (low (2 * t + e)) (moved low c (2 * t + e + y)) ∙ ap (λ (v : ℤ). v *ℤ low (2 * t + e)) (by-halves t))
@@ -92,25 +44,25 @@ module _ (g : ℕ) (low : ℕ → ℤ) (past : (j : ℕ) → 2 * g ≤ j → low
           go (yes l) = moved-front low c (2 * t + e + y) (omega arith) ∙ sym (moved-front there k t l)
           go (no n) = moved-at low c (2 * t + e + y) (2 * (t - k) + e′) (omega arith) ∙ sym (moved-at there k t (t - k) (omega arith))
 
-  turn : (e e′ y c : ℕ) → e < 2 → e′ < 2 → (y + e) % 2 ≡ (c + e′) % 2 → corr g low e y c ≡ corr g low e′ c y
+  turn : (e e′ y c : ℕ) → e < 2 → e′ < 2 → (y + e) % 2 ≡ (c + e′) % 2 → share g low low e y c ≡ share g low low e′ c y
   turn e e′ y c h h′ q = go (decLt (c + e′) (y + e))
     where
-      go : Dec (c + e′ < y + e) → corr g low e y c ≡ corr g low e′ c y
+      go : Dec (c + e′ < y + e) → share g low low e y c ≡ share g low low e′ c y
       go (yes l) = sym (turn-on e′ e c y ((y + e - (c + e′)) / 2) h (omega arith))
       go (no n) = turn-on e e′ y c ((c + e′ - (y + e)) / 2) h′ (omega arith)
 
   -- both parities are all the taps
-  parities : (e y c : ℕ) → e < 2 → corr g low e y c +ℤ corr g low (1 - e) y c ≡ sum integers (2 * g) (λ j. low j *ℤ moved low c (j + y))
+  parities : (e y c : ℕ) → e < 2 → share g low low e y c +ℤ share g low low (1 - e) y c ≡ sum integers (2 * g) (λ j. low j *ℤ moved low c (j + y))
   parities zero y c h =
-      ap (λ (v : ℤ). v +ℤ corr g low 1 y c)
+      ap (λ (v : ℤ). v +ℤ share g low low 1 y c)
       (alike integers g (λ t. low (2 * t + 0) *ℤ moved low c (2 * t + 0 + y)) (λ t. low (2 * t) *ℤ moved low c (2 * t + y)) (λ t l. ap (λ (j : ℕ). low j *ℤ moved low c (j + y)) (add-zero (2 * t))))
       ∙ sym (by-parity integers g (λ j. low j *ℤ moved low c (j + y)))
-  parities (suc zero) y c h = +ℤ-comm (corr g low 1 y c) (corr g low 0 y c) ∙ parities zero y c (omega arith)
+  parities (suc zero) y c h = +ℤ-comm (share g low low 1 y c) (share g low low 0 y c) ∙ parities zero y c (omega arith)
   parities (suc (suc e)) y c h = absurd (omega arith)
 
   -- at even distances
   module _ (S : ℤ) (square : sum integers (2 * g) (λ j. low j *ℤ low j) ≡ S) (apart : (k : ℕ) → 0 < k → sum integers (2 * g) (λ j. low j *ℤ low (j + 2 * k)) ≡ pos 0) where
-    further : (e y c : ℕ) → e < 2 → (y + c) % 2 ≡ 0 → c < y → corr g low e y c +ℤ corr g low (1 - e) y c ≡ pos 0
+    further : (e y c : ℕ) → e < 2 → (y + c) % 2 ≡ 0 → c < y → share g low low e y c +ℤ share g low low (1 - e) y c ≡ pos 0
     further e y c h q l =
         parities e y c h
         ∙ alike integers (2 * g) (λ j. low j *ℤ moved low c (j + y)) (λ j. low j *ℤ low (j + 2 * k)) (λ j i. ap (λ (v : ℤ). low j *ℤ v) (moved-at low c (j + y) (j + 2 * k) (omega arith)))
@@ -119,22 +71,22 @@ module _ (g : ℕ) (low : ℕ → ℤ) (past : (j : ℕ) → 2 * g ≤ j → low
         k : ℕ
         k = (y - c) / 2
 
-    even-distance : (e y c : ℕ) → e < 2 → (y + c) % 2 ≡ 0 → corr g low e y c +ℤ corr g low (1 - e) y c ≡ cond (eqb y c) S (pos 0)
+    even-distance : (e y c : ℕ) → e < 2 → (y + c) % 2 ≡ 0 → share g low low e y c +ℤ share g low low (1 - e) y c ≡ cond (eqb y c) S (pos 0)
     even-distance e y c h q = go (ℕ-discrete y c) (decLt c y)
       where
-        go : Dec (y ≡ c) → Dec (c < y) → corr g low e y c +ℤ corr g low (1 - e) y c ≡ cond (eqb y c) S (pos 0)
+        go : Dec (y ≡ c) → Dec (c < y) → share g low low e y c +ℤ share g low low (1 - e) y c ≡ cond (eqb y c) S (pos 0)
         go (yes p) d =
             parities e y c h
             ∙ alike integers (2 * g) (λ j. low j *ℤ moved low c (j + y)) (λ j. low j *ℤ low j) (λ j i. ap (λ (v : ℤ). low j *ℤ v) (moved-at low c (j + y) j (omega arith)))
             ∙ square ∙ sym (cond-true (eqb y c) S (pos 0) (eq-eqb y c p))
         go (no n) (yes l) = further e y c h q l ∙ sym (cond-false (eqb y c) S (pos 0) (ne-eqb y c n))
         go (no n) (no m) =
-            ap (λ (v : ℤ). v +ℤ corr g low (1 - e) y c) (turn e e y c h h (omega arith))
-            ∙ ap (λ (v : ℤ). corr g low e c y +ℤ v) (turn (1 - e) (1 - e) y c (omega arith) (omega arith) (omega arith))
+            ap (λ (v : ℤ). v +ℤ share g low low (1 - e) y c) (turn e e y c h h (omega arith))
+            ∙ ap (λ (v : ℤ). share g low low e c y +ℤ v) (turn (1 - e) (1 - e) y c (omega arith) (omega arith) (omega arith))
             ∙ further e c y h (omega arith) (omega arith) ∙ sym (cond-false (eqb y c) S (pos 0) (ne-eqb y c n))
 
     -- ---- the high taps
-    module _ (high : ℕ → ℤ) (inside : (j : ℕ) → j < 2 * g → high j ≡ alternate j (low (2 * g - 1 - j))) (beyond : (j : ℕ) → 2 * g ≤ j → high j ≡ pos 0) (some : 0 < g) where
+    module _ (high : ℕ → ℤ) (inside : (j : ℕ) → j < 2 * g → high j ≡ alternate negℤ j (low (2 * g - 1 - j))) (beyond : (j : ℕ) → 2 * g ≤ j → high j ≡ pos 0) (some : 0 < g) where
       mirror-moved : (q c : ℕ) → moved high c q ≡ sign (q + c) *ℤ moved low q (2 * g - 1 + c)
       mirror-moved q c = go (decLt q c) (decLt (q - c) (2 * g))
         where
@@ -150,7 +102,7 @@ module _ (g : ℕ) (low : ℕ → ℤ) (past : (j : ℕ) → 2 * g ≤ j → low
               ∙ ap (λ (v : ℤ). sign (q + c) *ℤ v) (sym (moved-at low q (2 * g - 1 + c) (2 * g - 1 - (q - c)) (omega arith)))
 
       -- a class of the high taps, by the low taps of the other parity
-      high-class : (e y c : ℕ) → e < 2 → sum integers g (λ t. high (2 * t + e) *ℤ moved high c (2 * t + e + y)) ≡ sign (y + c) *ℤ corr g low (1 - e) c y
+      high-class : (e y c : ℕ) → e < 2 → share g high high e y c ≡ sign (y + c) *ℤ share g low low (1 - e) c y
       high-class e y c h =
           alike integers g (λ t. high (2 * t + e) *ℤ moved high c (2 * t + e + y)) (λ t. sign (y + c) *ℤ term t) signed
           ∙ factor (sign (y + c)) g term
@@ -164,7 +116,7 @@ module _ (g : ℕ) (low : ℕ → ℤ) (past : (j : ℕ) → 2 * g ≤ j → low
               let j = 2 * t + e in
               ap (λ (v : ℤ). v *ℤ moved high c (j + y)) (inside j (omega arith) ∙ alternate-sign j (low (2 * g - 1 - j)))
               ∙ ap (λ (v : ℤ). sign j *ℤ low (2 * g - 1 - j) *ℤ v) (mirror-moved (j + y) c)
-              ∙ mul-middle (sign j) (low (2 * g - 1 - j)) (sign (j + y + c)) (moved low (j + y) (2 * g - 1 + c))
+              ∙ middle products (sign j) (low (2 * g - 1 - j)) (sign (j + y + c)) (moved low (j + y) (2 * g - 1 + c))
               ∙ ap (λ (s : ℤ). s *ℤ term t) (sign-mul j (j + y + c) ∙ sign-same (j + (j + y + c)) (y + c) (omega arith))
 
           from-end : (t : ℕ) → t < g → term (g - suc t) ≡ low (2 * t + (1 - e)) *ℤ moved low y (2 * t + (1 - e) + c)
@@ -176,18 +128,17 @@ module _ (g : ℕ) (low : ℕ → ℤ) (past : (j : ℕ) → 2 * g ≤ j → low
       pub mirror-restores : Restores g S low high low high
       mirror-restores = record {
         classes = λ e y c h.
-            together integers g (λ t. low (2 * t + e) *ℤ moved low c (2 * t + e + y)) (λ t. high (2 * t + e) *ℤ moved high c (2 * t + e + y))
-            ∙ ap (λ (v : ℤ). corr g low e y c +ℤ v) (high-class e y c h ∙ sym (alternate-sign (y + c) (corr g low (1 - e) c y)))
+            ap (λ (v : ℤ). share g low low e y c +ℤ v) (high-class e y c h ∙ sym (alternate-sign (y + c) (share g low low (1 - e) c y)))
             ∙ ⊎-elim (even e y c h) (odd e y c h) (parity (y + c));
       }
         where
-          even : (e y c : ℕ) → e < 2 → (y + c) % 2 ≡ 0 → corr g low e y c +ℤ alternate (y + c) (corr g low (1 - e) c y) ≡ cond (eqb y c) S (pos 0)
+          even : (e y c : ℕ) → e < 2 → (y + c) % 2 ≡ 0 → share g low low e y c +ℤ alternate negℤ (y + c) (share g low low (1 - e) c y) ≡ cond (eqb y c) S (pos 0)
           even e y c h p =
-              ap (λ (v : ℤ). corr g low e y c +ℤ v) (alternate-even (y + c) (corr g low (1 - e) c y) p ∙ turn (1 - e) (1 - e) c y (omega arith) (omega arith) (omega arith))
+              ap (λ (v : ℤ). share g low low e y c +ℤ v) (alternate-even (y + c) (share g low low (1 - e) c y) p ∙ turn (1 - e) (1 - e) c y (omega arith) (omega arith) (omega arith))
               ∙ even-distance e y c h p
 
-          odd : (e y c : ℕ) → e < 2 → (y + c) % 2 ≡ 1 → corr g low e y c +ℤ alternate (y + c) (corr g low (1 - e) c y) ≡ cond (eqb y c) S (pos 0)
+          odd : (e y c : ℕ) → e < 2 → (y + c) % 2 ≡ 1 → share g low low e y c +ℤ alternate negℤ (y + c) (share g low low (1 - e) c y) ≡ cond (eqb y c) S (pos 0)
           odd e y c h p =
               let n : y ≢ c = omega arith in
-              ap (λ (v : ℤ). corr g low e y c +ℤ v) (alternate-odd (y + c) (corr g low (1 - e) c y) p ∙ ap negℤ (turn (1 - e) e c y (omega arith) h (omega arith)))
-              ∙ +ℤ-invr (corr g low e y c) ∙ sym (cond-false (eqb y c) S (pos 0) (ne-eqb y c n))
+              ap (λ (v : ℤ). share g low low e y c +ℤ v) (alternate-odd (y + c) (share g low low (1 - e) c y) p ∙ ap negℤ (turn (1 - e) e c y (omega arith) h (omega arith)))
+              ∙ +ℤ-invr (share g low low e y c) ∙ sym (cond-false (eqb y c) S (pos 0) (ne-eqb y c n))

@@ -5,9 +5,8 @@ use native.Mathlib.Decide.{decLt}
 use native.Mathlib.Omega.{arith}
 use borrow.Author.Tests.{lt-ltb, le-ltb}
 use lib.IntN.{ℤ, pos, _*ℤ_, zero-*ℤ}
-use Rattle.whole.specs.Sums.{sum}
+use Rattle.whole.specs.Sums.{integers, sum}
 use Rattle.whole.specs.Terms.{alike, window}
-use Rattle.whole.specs.Integers.{integers}
 use Rattle.exact.specs.Classes.{moved}
 
 pub moved-front : (w : ℕ → ℤ) (c y : ℕ) → y < c → moved w c y ≡ pos 0

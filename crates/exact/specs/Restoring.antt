@@ -1,20 +1,18 @@
 -- Restoring is exact where it can be: what is asked of taps and samples, and what analysis followed by synthesis then gives. Definitions only.
 -- Floats that are whole stand beside the whole numbers that they are: z the low taps, v the samples. The statement is over a format f, whose whole numbers reach to 2^prec: 2^53 for binary64.
 use mathlib.Core.Path.{_≡_}
-use mathlib.Core.Bool.{cond}
 use mathlib.Core.List.{List}
-use Prim.Native.Nat.{ℕ, _+_, _-_, _*_, _%_, _^_, _≤_, _<_}
-use lib.Dec.{eqb}
+use Prim.Native.Nat.{ℕ, _+_, _*_, _%_, _^_, _≤_, _<_}
 use lib.ListN.{length}
 use lib.IntN.{ℤ, pos, negℤ, natAbs, _*ℤ_}
 use lib.Ieee.{Float, Format, prec}
 use Rattle.numbers.specs.Words.{longest, at}
-use Rattle.whole.specs.Sums.{sum}
-use Rattle.whole.specs.Integers.{integers, naturals}
+use Rattle.whole.specs.Sums.{integers, naturals, sum}
 use Rattle.whole.specs.Floats.{Whole, atℤ, Holds}
 use Rattle.border.specs.declared.Border.{Border}
 use Rattle.border.specs.Rule.{padded}
 use Rattle.bank.specs.Lengths.{GoodTaps, pairs, lineLength}
+use Rattle.bank.specs.Banks.{mirrorOf}
 use Rattle.analysis.specs.Lines.{band}
 use Rattle.synthesis.specs.Lines.{synthesised}
 
@@ -30,13 +28,9 @@ sizes z = sum naturals (length z) (λ j. natAbs (atℤ z j))
 abbrev pub shifted : List ℤ → ℕ → ℤ
 shifted z d = sum integers (length z) (λ j. atℤ z j *ℤ atℤ z (j + d))
 
--- plus at even places, minus at odd ones
-abbrev pub alternate : ℕ → ℤ → ℤ
-alternate j z = cond (eqb (j % 2) 0) z (negℤ z)
-
--- the mirror rule: high tap j is low tap f - 1 - j with the sign of j
+-- the mirror rule of the bank, in whole numbers
 abbrev pub mirror : List ℤ → ℕ → ℤ
-mirror z j = alternate j (atℤ z (length z - 1 - j))
+mirror z j = mirrorOf negℤ (atℤ z) (length z) j
 
 -- F taps in use of each list, samples s, and A
 pub record Premises (f : Format) (F : ℕ) (low high s : List Float) (z v : List ℤ) (A : ℕ) : Type 0 where
@@ -73,9 +67,13 @@ pub record Restored (b : Border) (S : ℤ) (v : List ℤ) (out : List Float) : T
   pub each : (i : ℕ) → i < length v → Whole (at out i) (S *ℤ atℤ v i)
   pub extra : length v % 2 ≡ 1 → Whole (at out (length v)) (S *ℤ next b v)
 
--- analysis under any border, then synthesis into a cleared output of the ruled length
+-- analysis of the samples by the taps al and ah, then synthesis of both bands by sl and sh onto an output
+abbrev pub thereAndBack : Format → ℕ → List Float → List Float → List Float → List Float → Border → List Float → List Float → List Float
+thereAndBack f F al ah sl sh b s out = synthesised f F sl sh (band f al F b s) (band f ah F b s) out
+
+-- under any border, into a cleared output of the ruled length, by the same taps both ways
 abbrev pub RestoringIsExact : Format → Type 0
 RestoringIsExact f =
     (b : Border) (F : ℕ) (low high s out : List Float) (z v : List ℤ) (A : ℕ) → Premises f F low high s z v A
     → Cleared out → length out ≡ lineLength (pairs (length s) F) F
-    → Restored b (squares z) v (synthesised f F low high (band f low F b s) (band f high F b s) out)
+    → Restored b (squares z) v (thereAndBack f F low high low high b s out)

@@ -6,8 +6,8 @@ use native.Mathlib.Nat.{le-refl, le-trans, add-le-add, mul-le-mul-left}
 use native.Mathlib.Omega.{arith}
 use lib.IntN.{ℤ, pos, natAbs, _+ℤ_, _*ℤ_, +ℤ-assoc, +ℤ-idr}
 use lib.Ieee.{Float, Format, prec, add, mul}
-use Rattle.whole.specs.Sums.{sum}
-use Rattle.whole.specs.Integers.{integers, naturals, size-add, size-mul}
+use Rattle.whole.specs.Sums.{integers, naturals, sum}
+use Rattle.whole.specs.Integers.{size-add, size-mul}
 use Rattle.whole.specs.Floats.{Whole, Within}
 use Rattle.whole.specs.Exact.{add-whole, mul-whole, zero-whole}
 use Rattle.analysis.specs.Sums.{dot}
@@ -34,29 +34,29 @@ module _ (f : Format) (tap x : ℕ → Float) (tapℤ xℤ : ℕ → ℤ) (A N :
       step f (dot f tap x n) (tap n) (x n) (sum integers n (λ k. tapℤ k *ℤ xℤ k)) (tapℤ n) (xℤ n) (sum naturals n (λ k. natAbs (tapℤ k) * A)) A
       (dot-within n (omega arith) (omega arith)) (wt n l) (wx n l) h
 
--- what pair i can bring to padded place P in size, of approximations and details no larger than A and D
-abbrev pub weight : ℕ → (ℕ → ℤ) → (ℕ → ℤ) → ℕ → ℕ → ℕ → ℕ → ℕ
-weight F low high A D P i = cond (meets F P i) (natAbs (high (P - 2 * i)) * D + natAbs (low (P - 2 * i)) * A) 0
+-- what pair i can bring to padded place P in size, of bands no larger than B
+abbrev pub weight : ℕ → (ℕ → ℤ) → (ℕ → ℤ) → ℕ → ℕ → ℕ → ℕ
+weight F low high B P i = cond (meets F P i) (natAbs (high (P - 2 * i)) * B + natAbs (low (P - 2 * i)) * B) 0
 
 -- a sum over the pairs, onto a zero
-module _ (f : Format) (F : ℕ) (low high a d : ℕ → Float) (lowℤ highℤ aℤ dℤ : ℕ → ℤ) (A D P : ℕ) (held : Float) (m : ℕ)
+module _ (f : Format) (F : ℕ) (low high a d : ℕ → Float) (lowℤ highℤ aℤ dℤ : ℕ → ℤ) (B P : ℕ) (held : Float) (m : ℕ)
     (wl : (j : ℕ) → j < F → Whole (low j) (lowℤ j)) (wh : (j : ℕ) → j < F → Whole (high j) (highℤ j))
-    (wa : (i : ℕ) → i < m → Within (a i) (aℤ i) A) (wd : (i : ℕ) → i < m → Within (d i) (dℤ i) D) (clear : Whole held (pos 0)) where
+    (wa : (i : ℕ) → i < m → Within (a i) (aℤ i) B) (wd : (i : ℕ) → i < m → Within (d i) (dℤ i) B) (clear : Whole held (pos 0)) where
   pair-within : (t : Bool) (j i : ℕ) (acc : Float) (z : ℤ) (w : ℕ) → (t ≡ true → j < F) → i < m → Within acc z w
-      → w + cond t (natAbs (highℤ j) * D + natAbs (lowℤ j) * A) 0 ≤ 2 ^ prec f
+      → w + cond t (natAbs (highℤ j) * B + natAbs (lowℤ j) * B) 0 ≤ 2 ^ prec f
       → Within (cond t (onto f low high j (a i) (d i) acc) acc) (z +ℤ cond t (highℤ j *ℤ dℤ i +ℤ lowℤ j *ℤ aℤ i) (pos 0))
-      (w + cond t (natAbs (highℤ j) * D + natAbs (lowℤ j) * A) 0)
+      (w + cond t (natAbs (highℤ j) * B + natAbs (lowℤ j) * B) 0)
   pair-within false j i acc z w in-use l p h = rw (+ℤ-idr z) (p .0, omega (arith, p .1))
   pair-within true j i acc z w in-use l p h =
-      let u = natAbs (highℤ j) * D in
-      let q = step f acc (high j) (d i) z (highℤ j) (dℤ i) w D p (wh j (in-use refl)) (wd i l) (omega arith) in
-      let r = step f (add f acc (mul f (high j) (d i))) (low j) (a i) (z +ℤ highℤ j *ℤ dℤ i) (lowℤ j) (aℤ i) (w + u) A q (wl j (in-use refl)) (wa i l) (omega arith) in
+      let u = natAbs (highℤ j) * B in
+      let q = step f acc (high j) (d i) z (highℤ j) (dℤ i) w B p (wh j (in-use refl)) (wd i l) (omega arith) in
+      let r = step f (add f acc (mul f (high j) (d i))) (low j) (a i) (z +ℤ highℤ j *ℤ dℤ i) (lowℤ j) (aℤ i) (w + u) B q (wl j (in-use refl)) (wa i l) (omega arith) in
       rw (← (+ℤ-assoc z (highℤ j *ℤ dℤ i) (lowℤ j *ℤ aℤ i))) (r .0, omega (arith, r .1))
 
-  pub join-within : (n : ℕ) → n ≤ m → sum naturals n (weight F lowℤ highℤ A D P) ≤ 2 ^ prec f
-      → Within (joined f F low high a d P held n) (sum integers n (joinsℤ F lowℤ highℤ aℤ dℤ P)) (sum naturals n (weight F lowℤ highℤ A D P))
+  pub join-within : (n : ℕ) → n ≤ m → sum naturals n (weight F lowℤ highℤ B P) ≤ 2 ^ prec f
+      → Within (joined f F low high a d P held n) (sum integers n (joinsℤ F lowℤ highℤ aℤ dℤ P)) (sum naturals n (weight F lowℤ highℤ B P))
   unfolding joined sum
   join-within zero l h = (clear, le-refl 0)
   join-within (suc n) l h =
-      pair-within (meets F P n) (P - 2 * n) n (joined f F low high a d P held n) (sum integers n (joinsℤ F lowℤ highℤ aℤ dℤ P)) (sum naturals n (weight F lowℤ highℤ A D P))
+      pair-within (meets F P n) (P - 2 * n) n (joined f F low high a d P held n) (sum integers n (joinsℤ F lowℤ highℤ aℤ dℤ P)) (sum naturals n (weight F lowℤ highℤ B P))
       (reached F P n) l (join-within n (omega arith) (omega arith)) h

@@ -1,18 +1,19 @@
 -- Laws of floats that are whole numbers: a sum or product of two is exact while its size is at most 2^prec, since the format holds every such number.
 use mathlib.Core.Path.{_≡_, refl, sym, ap, _∙_, subst}
-use mathlib.Core.Bool.{Bool, true, false, not, cond, _&&_, _||_, Bool·beq}
+use mathlib.Core.Bool.{Bool, true, false, not, cond, _&&_}
+use mathlib.Core.Logic.{_≢_}
 use mathlib.Core.List.{List, [], _∷_}
 use Prim.Native.Nat.{ℕ, zero, suc, _+_, _-_, _*_, _^_, _≤_, _<_}
-use native.Mathlib.Nat.{mul-one, mul-pos, le-refl, le-of-suc-le-suc, not-suc-le-zero, mul-sub, mul-comm, add-mul, lt-of-mul-lt-mul-right, le-of-mul-le-mul-right, zero-mul}
+use native.Mathlib.Nat.{mul-one, mul-pos, le-refl, le-of-suc-le-suc, not-suc-le-zero, mul-sub, mul-comm, add-mul, lt-of-mul-lt-mul-right, le-of-mul-le-mul-right}
 use native.Mathlib.Omega.{arith}
-use borrow.Author.Tests.{ltb-true, ltb-false, eq-eqb}
-use lib.Dec.{ltb, eqb}
+use borrow.Author.Tests.{ltb-true, ltb-false}
+use lib.Dec.{T, ltb}
 use lib.ListN.{length}
-use lib.IntN.{ℤ, pos, negsuc, negℤ, natAbs, _+ℤ_, _*ℤ_, +ℤ-idr, +ℤ-assoc, +ℤ-comm, +ℤ-invr, negℤ-+ℤ, negℤ-negℤ, pos-ne-negsuc}
-use lib.Ieee.{Float, nan, inf, fin, Format, prec, up, down, unlike, round, sum, add, mul, neg, eq, ofInt}
-use lib.Ieee.Fits.{down-pos}
+use lib.IntN.{ℤ, pos, negsuc, negℤ, natAbs, _+ℤ_, _*ℤ_, +ℤ-comm, +ℤ-negℤ-cancel, negℤ-+ℤ, negℤ-negℤ, pos-ne-negsuc}
+use lib.Ieee.{Float, nan, inf, fin, Format, prec, up, down, unlike, round, sum, add, mul, neg, ofInt, fits}
+use lib.Ieee.Fits.{down-pos, round-fits}
 use lib.Ieee.Exact.{HasValue}
-use lib.Ieee.Back.{round-whole}
+use lib.Ieee.Back.{round-whole, whole-unique}
 use lib.Ieee.Scale.{round-same}
 use Rattle.numbers.specs.Words.{at}
 use Rattle.whole.specs.Floats.{signed, Whole, atℤ, Holds, floats}
@@ -33,10 +34,7 @@ signed-add true a b = sym (negℤ-+ℤ (pos a) (pos b))
 
 -- unlike signs: the larger size less the other, under the larger's sign
 pos-sub : (a b : ℕ) → b ≤ a → pos a +ℤ negℤ (pos b) ≡ pos (a - b)
-pos-sub a b h =
-    let e : a ≡ a - b + b = omega arith in
-    ap (λ (x : ℕ). pos x +ℤ negℤ (pos b)) e ∙ +ℤ-assoc (pos (a - b)) (pos b) (negℤ (pos b))
-    ∙ ap (λ (x : ℤ). pos (a - b) +ℤ x) (+ℤ-invr (pos b)) ∙ +ℤ-idr (pos (a - b))
+pos-sub a b h = let e : a ≡ a - b + b = omega arith in ap (λ (x : ℕ). pos x +ℤ negℤ (pos b)) e ∙ +ℤ-negℤ-cancel (pos (a - b)) (pos b)
 
 signed-sub : (s : Bool) (a b : ℕ) → b ≤ a → signed s a +ℤ signed (not s) b ≡ signed s (a - b)
 signed-sub false a b h = pos-sub a b h
@@ -156,7 +154,7 @@ neg-whole (fin s m e) z w = (
 )
 
 -- a whole number that the format holds, as a float
-pub int-whole : (f : Format) (z : ℤ) → natAbs z ≤ 2 ^ prec f → Whole (ofInt f z) z
+int-whole : (f : Format) (z : ℤ) → natAbs z ≤ 2 ^ prec f → Whole (ofInt f z) z
 unfolding ofInt
 int-whole f (pos n) h = of-value (round f false n 1) false n (round-whole f false n h)
 int-whole f (negsuc n) h = of-value (round f true (suc n) 1) true (suc n) (round-whole f true (suc n) h)
@@ -169,19 +167,13 @@ int-holds f z h = record { whole = λ i l. subst (λ (x : Float). Whole x (atℤ
     there f (a ∷ z) zero h = refl
     there f (a ∷ z) (suc i) h = there f z i (le-of-suc-le-suc h)
 
--- floats that are one whole number are equal by the machine's own test, which takes -0 for +0
-pub whole-eq : (x y : Float) (z : ℤ) → Whole x z → Whole y z → eq x y ≡ true
-unfolding eq
-whole-eq x y z p q = of-two z z (λ x y. eq x y ≡ true) (λ s m e t n d p q.
-    let a = natAbs z in
-    let c = down e * down d in
-    rw (over (m * up e) a (down e) (down d) (p .1), over-other (n * up d) a (down d) (down e) (q .1), eq-eqb (a * c) (a * c) refl)
-    (either s t a c (sym (p .0) ∙ q .0))) x y p q
-  where
-    either : (s t : Bool) (a c : ℕ) → signed s a ≡ signed t a → (Bool·beq s t || eqb (a * c) 0) ≡ true
-    either false false a c h = refl
-    either true true a c h = refl
-    either false true zero c h = eq-eqb (0 * c) 0 (zero-mul c)
-    either true false zero c h = eq-eqb (0 * c) 0 (zero-mul c)
-    either false true (suc a) c h = absurd (pos-ne-negsuc (suc a) a h)
-    either true false (suc a) c h = absurd (pos-ne-negsuc (suc a) a (sym h))
+-- the value tells the bits: a float that the format holds, and that is a whole number other than 0, is the float of that number
+pub whole-bits : (f : Format) (x : Float) (z : ℤ) → T (fits f x) → natAbs z ≤ 2 ^ prec f → z ≢ pos 0 → Whole x z → x ≡ ofInt f z
+unfolding ofInt
+whole-bits f nan z k h n w = absurd w
+whole-bits f (inf s) z k h n w = absurd w
+whole-bits f (fin s m e) (pos zero) k h n w = absurd (n refl)
+whole-bits f (fin false m e) (pos (suc a)) k h n w = whole-unique f (fin false m e) (round f false (suc a) 1) false (suc a) k (round-fits f false (suc a) 1) (refl, mul-one (m * up e) ∙ w .1) (round-whole f false (suc a) h)
+whole-bits f (fin true m e) (pos (suc a)) k h n w = absurd (pos-ne-negsuc (suc a) a (w .0))
+whole-bits f (fin true m e) (negsuc a) k h n w = whole-unique f (fin true m e) (round f true (suc a) 1) true (suc a) k (round-fits f true (suc a) 1) (refl, mul-one (m * up e) ∙ w .1) (round-whole f true (suc a) h)
+whole-bits f (fin false m e) (negsuc a) k h n w = absurd (pos-ne-negsuc (suc a) a (sym (w .0)))

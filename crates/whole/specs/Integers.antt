@@ -1,18 +1,11 @@
--- Laws of whole numbers: the product of ℤ spreads over sums and takes brackets, since each step of one factor adds or takes away the other; sizes of sums and products; and ℕ and ℤ as things to add.
+-- Laws of whole numbers: the product of ℤ spreads over sums and takes brackets, since each step of one factor adds or takes away the other; sizes of sums and products; and products, too, can be taken in any order.
 use mathlib.Core.Path.{_≡_, refl, sym, ap, _∙_}
 use Prim.Native.Nat.{ℕ, zero, suc, _+_, _*_, _-_, _≤_}
-use native.Mathlib.Nat.{zero-add, add-comm, add-assoc}
 use native.Mathlib.Omega.{arith}
 use mathlib.Core.Bool.{Bool, true, false, cond}
 use lib.Dec.{ltb}
-use lib.IntN.{ℤ, pos, negsuc, sucℤ, predℤ, negℤ, natAbs, subℕ, _+ℤ_, _*ℤ_, +ℤ-idl, +ℤ-idr, +ℤ-assoc, +ℤ-comm, +ℤ-invr, +ℤ-sucℤ, +ℤ-predℤ, zero-*ℤ, *ℤ-comm, sucℤ-*ℤ, predℤ-*ℤ}
+use lib.IntN.{ℤ, pos, negsuc, sucℤ, predℤ, negℤ, natAbs, subℕ, _+ℤ_, _*ℤ_, +ℤ-idl, +ℤ-idr, +ℤ-assoc, +ℤ-invr, +ℤ-invl, +ℤ-sucℤ, +ℤ-predℤ, zero-*ℤ, *ℤ-comm, *ℤ-one, one, sucℤ-*ℤ, predℤ-*ℤ}
 use Rattle.whole.specs.Sums.{Adding}
-
-abbrev pub naturals : Adding ℕ
-naturals = record { none = 0; plus = _+_; idl = zero-add; comm = add-comm; assoc = add-assoc }
-
-abbrev pub integers : Adding ℤ
-integers = record { none = pos 0; plus = _+ℤ_; idl = +ℤ-idl; comm = +ℤ-comm; assoc = +ℤ-assoc }
 
 -- what holds of 0 and goes one step up and one step down holds of every integer
 by-steps : (P : ℤ → Type 0) → P (pos 0) → ((b : ℤ) → P b → P (sucℤ b)) → ((b : ℤ) → P b → P (predℤ b)) → (b : ℤ) → P b
@@ -43,7 +36,7 @@ mul-add a b c = *ℤ-comm a (b +ℤ c) ∙ add-mul b c a ∙ ap (λ (x : ℤ). x
 -- what makes a number nothing is its negative
 neg-alone : (a b : ℤ) → a +ℤ b ≡ pos 0 → b ≡ negℤ a
 neg-alone a b h =
-    sym (+ℤ-idl b) ∙ ap (λ (x : ℤ). x +ℤ b) (sym (+ℤ-invr a) ∙ +ℤ-comm a (negℤ a))
+    sym (+ℤ-idl b) ∙ ap (λ (x : ℤ). x +ℤ b) (sym (+ℤ-invl a))
     ∙ +ℤ-assoc (negℤ a) a b ∙ ap (λ (x : ℤ). negℤ a +ℤ x) h ∙ +ℤ-idr (negℤ a)
 
 pub neg-mul : (a b : ℤ) → negℤ a *ℤ b ≡ negℤ (a *ℤ b)
@@ -66,10 +59,13 @@ mul-assoc a b c = by-steps (λ (a : ℤ). (a *ℤ b) *ℤ c ≡ a *ℤ (b *ℤ c
         ap (λ (x : ℤ). x *ℤ c) (predℤ-*ℤ a b) ∙ add-mul (a *ℤ b) (negℤ b) c
         ∙ ap (λ (x : ℤ). x +ℤ negℤ b *ℤ c) h ∙ ap (λ (x : ℤ). a *ℤ (b *ℤ c) +ℤ x) (neg-mul b c) ∙ sym (predℤ-*ℤ a (b *ℤ c))
 
--- two products of two
-pub mul-middle : (a b c d : ℤ) → (a *ℤ b) *ℤ (c *ℤ d) ≡ (a *ℤ c) *ℤ (b *ℤ d)
-mul-middle a b c d =
-    mul-assoc a b (c *ℤ d) ∙ ap (λ (x : ℤ). a *ℤ x) (sym (mul-assoc b c d) ∙ ap (λ (x : ℤ). x *ℤ d) (*ℤ-comm b c) ∙ mul-assoc c b d) ∙ sym (mul-assoc a c (b *ℤ d))
+pub one-mul : (a : ℤ) → pos 1 *ℤ a ≡ a
+unfolding one
+one-mul a = *ℤ-comm (pos 1) a ∙ *ℤ-one a
+
+-- products as sums
+abbrev pub products : Adding ℤ
+products = record { none = pos 1; plus = _*ℤ_; idl = one-mul; comm = *ℤ-comm; assoc = mul-assoc }
 
 -- ---- sizes
 pub size-neg : (a : ℤ) → natAbs (negℤ a) ≡ natAbs a

@@ -1,12 +1,12 @@
--- Laws of sums: terms can be compared, parted, taken in another order and left out where they are nothing. Each goes by the number of terms.
+-- Laws of sums, by the number of their terms: terms can be compared, parted, taken in another order, and left out where they are nothing.
 use mathlib.Core.Path.{_≡_, refl, sym, ap, _∙_}
 use mathlib.Core.Logic.{_≢_}
 use Prim.Native.Nat.{ℕ, zero, suc, _+_, _-_, _*_, _<_}
 use native.Mathlib.Nat.{add-zero, add-suc, le-step, lt-suc-self, zero-mul, add-mul as add-mul-ℕ}
 use native.Mathlib.Omega.{arith}
 use lib.IntN.{ℤ, _*ℤ_, zero-*ℤ, *ℤ-zero}
-use Rattle.whole.specs.Sums.{Adding, sum}
-use Rattle.whole.specs.Integers.{naturals, integers, add-mul, mul-add}
+use Rattle.whole.specs.Sums.{Adding, naturals, integers, sum}
+use Rattle.whole.specs.Integers.{add-mul, mul-add}
 
 -- a map that keeps sums goes through them
 through : {A B : Type 0} (P : Adding A) (Q : Adding B) (h : A → B) → h (P .none) ≡ Q .none → ((a b : A) → h (P .plus a b) ≡ Q .plus (h a) (h b))
@@ -60,7 +60,7 @@ module _ {A : Type 0} (P : Adding A) where
   exchange (suc n) m g = ap (λ (v : A). P .plus v (sum P m (λ j. g n j))) (exchange n m g) ∙ sym (together m (λ j. sum P n (λ i. g i j)) (λ j. g n j))
 
   -- the first a terms and the b behind them
-  pub parted : (a b : ℕ) (g : ℕ → A) → sum P (a + b) g ≡ P .plus (sum P a g) (sum P b (λ i. g (a + i)))
+  parted : (a b : ℕ) (g : ℕ → A) → sum P (a + b) g ≡ P .plus (sum P a g) (sum P b (λ i. g (a + i)))
   unfolding sum
   parted a zero g = ap (λ (n : ℕ). sum P n g) (add-zero a) ∙ sym (idr (sum P a g))
   parted a (suc b) g =

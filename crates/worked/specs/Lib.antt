@@ -1,5 +1,7 @@
--- Document 01's worked examples, each a statement about the definitions that the entries' promises cite.
+-- Document 01's worked examples, each a statement about the definitions that the entries' promises cite; and of exact restoring, three banks that meet its premises and a line past its bound.
 pub mod Whole
 pub mod Lines
 pub mod Kernels
+pub mod Meeting
+pub mod Premised
 pub mod Restoring

@@ -7,7 +7,7 @@ use lib.IntN.{pos, negsuc}
 use lib.ListN.{replicate}
 use lib.Ieee.{Float, fin, binary64, ofInt, add, mul, neg}
 use Rattle.numbers.specs.Words.{plusZero, tab}
-use Rattle.worked.specs.Whole.{floats}
+use Rattle.worked.specs.Whole.{floats, eight, eightHigh, tens}
 use Rattle.border.specs.declared.Border.{Border}
 use Rattle.border.specs.declared.Border.the-variants.{Clamp, Wrap, Reflect, Zeros, Reflect101}
 use Rattle.border.specs.Rule.{source, padded}
@@ -62,16 +62,16 @@ clamp-zeros = (refl, refl)
 
 -- P8: the program's case
 abbrev low : List Float
-low = floats (pos 3 ∷ pos 6 ∷ pos 2 ∷ negsuc 0 ∷ [])
+low = floats eight
 
 abbrev high : List Float
-high = floats (negsuc 0 ∷ negsuc 1 ∷ pos 6 ∷ negsuc 2 ∷ [])
+high = floats eightHigh
 
-p8-low : band binary64 low 4 Clamp (floats (pos 10 ∷ pos 20 ∷ pos 30 ∷ pos 40 ∷ [])) ≡ floats (pos 90 ∷ pos 170 ∷ pos 370 ∷ [])
+p8-low : band binary64 low 4 Clamp (floats tens) ≡ floats (pos 90 ∷ pos 170 ∷ pos 370 ∷ [])
 unfolding band analysed dot tab padded source ofInt add mul
 p8-low = refl
 
-p8-high : band binary64 high 4 Clamp (floats (pos 10 ∷ pos 20 ∷ pos 30 ∷ pos 40 ∷ [])) ≡ floats (negsuc 29 ∷ pos 10 ∷ pos 10 ∷ [])
+p8-high : band binary64 high 4 Clamp (floats tens) ≡ floats (negsuc 29 ∷ pos 10 ∷ pos 10 ∷ [])
 unfolding band analysed dot tab padded source ofInt add mul
 p8-high = refl
 

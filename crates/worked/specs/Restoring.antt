@@ -1,12 +1,15 @@
--- Restoring is exact, of three banks: they meet the premises under every border, one with samples at the largest A that the bound allows; and a line past the bound that does not come back. Each is computed.
-use mathlib.Core.Path.{_≡_, refl}
-use mathlib.Core.Bool.{false}
+-- Restoring is exact, of three banks: they meet the premises under every border, two of them with samples at the largest A that the bound allows; and a line past the bound is not restored. Each is computed.
+use mathlib.Core.Path.{_≡_, refl, subst}
+use mathlib.Core.Bool.{true, false, _&&_}
 use mathlib.Core.List.{List, [], _∷_}
+use native.Mathlib.Omega.{arith}
+use lib.Dec.{lit<}
 use lib.ListN.{replicate}
 use lib.IntN.{ℤ, pos, negsuc, _*ℤ_}
-use lib.Ieee.{binary32, binary64, ofInt, add, mul}
-use Rattle.numbers.specs.Words.{plusZero, tab}
+use lib.Ieee.{Float, binary32, binary64, ofInt, add, mul}
+use Rattle.numbers.specs.Words.{plusZero, at, tab}
 use Rattle.whole.specs.Sums.{sum}
+use Rattle.whole.specs.Floats.{Whole}
 use Rattle.border.specs.declared.Border.{Border}
 use Rattle.border.specs.declared.Border.the-variants.{Wrap}
 use Rattle.border.specs.Rule.{source, padded}
@@ -15,26 +18,24 @@ use Rattle.analysis.specs.Sums.{dot, analysed}
 use Rattle.analysis.specs.Lines.{band}
 use Rattle.synthesis.specs.Sums.{joined}
 use Rattle.synthesis.specs.Lines.{synthesised}
-use Rattle.exact.specs.Restoring.{squares, sizes}
-use Rattle.exact.specs.Premised.{boundMeets, Met, premised}
-use Rattle.worked.specs.Whole.{floats}
+use Rattle.exact.specs.Restoring.{squares, sizes, thereAndBack, Restored}
+use Rattle.worked.specs.Meeting.{tapsMeet, samplesMeet, boundMeets, heldBy, Met}
+use Rattle.worked.specs.Premised.{premised}
+use Rattle.worked.specs.Whole.{floats, eight, eightHigh, tens}
 
 -- ---- the bank of P8: S = 50, T = 12
-abbrev eight : List ℤ
-eight = pos 3 ∷ pos 6 ∷ pos 2 ∷ negsuc 0 ∷ []
-
 p8-sums : (squares eight ≡ pos 50) × (sizes eight ≡ 12)
 unfolding sum
 p8-sums = (refl, refl)
 
 -- its samples, in both formats
-p8 : (b : Border) → Met binary64 b eight (pos 10 ∷ pos 20 ∷ pos 30 ∷ pos 40 ∷ []) 40
+p8 : (b : Border) → Met binary64 b eight tens 40
 unfolding sum badTaps
-p8 b = premised binary64 b eight (pos 10 ∷ pos 20 ∷ pos 30 ∷ pos 40 ∷ []) 40 refl
+p8 b = premised binary64 b eight tens 40 refl
 
-p8-small : (b : Border) → Met binary32 b eight (pos 10 ∷ pos 20 ∷ pos 30 ∷ pos 40 ∷ []) 40
+p8-small : (b : Border) → Met binary32 b eight tens 40
 unfolding sum badTaps
-p8-small b = premised binary32 b eight (pos 10 ∷ pos 20 ∷ pos 30 ∷ pos 40 ∷ []) 40 refl
+p8-small b = premised binary32 b eight tens 40 refl
 
 -- ---- the taps 1 1: S = 2, T = 2, with samples at the largest A, 2^50
 abbrev two : List ℤ
@@ -63,14 +64,22 @@ six-taps : (b : Border) → Met binary64 b six loud 3895847428521
 unfolding sum badTaps
 six-taps b = premised binary64 b six loud 3895847428521 refl
 
--- ---- past the bound: samples of P8's bank some 4.3 times as large as it allows. The first place comes back one off from 50 times its sample
+-- ---- past the bound: samples of P8's bank some 4.3 times as large as it allows, and nothing else amiss
 abbrev far : List ℤ
 far = negsuc 134482488872867 ∷ pos 134482488872868 ∷ pos 134482488872868 ∷ negsuc 134482488872866 ∷ []
 
-past-bound : (boundMeets binary64 eight 134482488872868 ≡ false)
-    × (synthesised binary64 4 (floats eight) (floats (negsuc 0 ∷ negsuc 1 ∷ pos 6 ∷ negsuc 2 ∷ []))
-    (band binary64 (floats eight) 4 Wrap (floats far)) (band binary64 (floats (negsuc 0 ∷ negsuc 1 ∷ pos 6 ∷ negsuc 2 ∷ [])) 4 Wrap (floats far)) (replicate 4 plusZero)
-    ≡ floats (negsuc 6724124443643398 ∷ pos 6724124443643400 ∷ pos 6724124443643400 ∷ negsuc 6724124443643349 ∷ []))
-    × (pos 50 *ℤ negsuc 134482488872867 ≡ negsuc 6724124443643399)
-unfolding sum synthesised joined band analysed dot tab padded source ofInt add mul
-past-bound = (refl, refl, refl)
+past-bound : ((tapsMeet eight && samplesMeet eight far 134482488872868 && heldBy binary64 eight 134482488872868) ≡ true) × (boundMeets binary64 eight 134482488872868 ≡ false)
+unfolding sum badTaps
+past-bound = (refl, refl)
+
+-- what comes back, in the first place one off from 50 times its sample
+abbrev came : List Float
+came = thereAndBack binary64 4 (floats eight) (floats eightHigh) (floats eight) (floats eightHigh) Wrap (floats far) (replicate 4 plusZero)
+
+past-came : came ≡ floats (negsuc 6724124443643398 ∷ pos 6724124443643400 ∷ pos 6724124443643400 ∷ negsuc 6724124443643349 ∷ [])
+unfolding synthesised joined band analysed dot tab padded source ofInt add mul
+past-came = refl
+
+past-lost : Restored Wrap (squares eight) far came → ⊥
+unfolding sum ofInt
+past-lost r = let w : Whole (ofInt binary64 (negsuc 6724124443643398)) (squares eight *ℤ negsuc 134482488872867) = subst (λ (l : List Float). Whole (at l 0) (squares eight *ℤ negsuc 134482488872867)) past-came (r .each 0 (lit< tt)) in absurd (omega (arith, w .1))
