@@ -1,4 +1,4 @@
--- Laws of taps moved along a line: only the distance tells, and a sum over taps that begin at a place is a sum over the line.
+-- Laws of taps moved along a line: only the distance matters, and a sum over taps that begin at a place is a sum over the line.
 use mathlib.Core.Path.{_≡_, refl, sym, ap, _∙_}
 use Prim.Native.Nat.{ℕ, _+_, _-_, _≤_, _<_}
 use native.Mathlib.Decide.{decLt}
@@ -19,7 +19,7 @@ moved-at w c y k h =
     let e : y - c ≡ k = omega arith in
     simp (le-ltb y c (omega arith), e)
 
--- the distance alone tells
+-- the distance alone matters
 pub moved-same : (w : ℕ → ℤ) (c y c′ y′ : ℕ) → y + c′ ≡ y′ + c → moved w c y ≡ moved w c′ y′
 moved-same w c y c′ y′ h = go (decLt y c)
   where

@@ -28,7 +28,7 @@ sizes z = sum naturals (length z) (λ j. natAbs (atℤ z j))
 abbrev pub shifted : List ℤ → ℕ → ℤ
 shifted z d = sum integers (length z) (λ j. atℤ z j *ℤ atℤ z (j + d))
 
--- the mirror rule of the bank, in whole numbers
+-- the bank's mirror rule, in whole numbers: tap F - 1 - j, plus at even j, minus at odd
 abbrev pub mirror : List ℤ → ℕ → ℤ
 mirror z j = mirrorOf negℤ (atℤ z) (length z) j
 
