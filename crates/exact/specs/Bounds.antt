@@ -4,14 +4,10 @@ use Prim.Native.Nat.{ℕ, zero, suc, _+_, _*_, _≤_, _<_}
 use native.Mathlib.Nat.{le-trans, add-le-add, mul-le-mul-right}
 use native.Mathlib.Omega.{arith}
 use lib.IntN.{ℤ, natAbs}
-use Rattle.whole.specs.Sums.{naturals, sum}
+use Rattle.whole.specs.Sums.{naturals, sum, sizesOf}
 use Rattle.whole.specs.Terms.{factor-ℕ, alike, together, by-parity}
 use Rattle.exact.specs.Weights.{weight}
 use Rattle.exact.specs.Reach.{reach}
-
--- the sizes of F taps together
-abbrev pub weighs : ℕ → (ℕ → ℤ) → ℕ
-weighs F w = sum naturals F (λ k. natAbs (w k))
 
 -- the terms at places of one parity are no more than all
 class-le : (g e : ℕ) (w : ℕ → ℕ) → e < 2 → sum naturals g (λ t. w (2 * t + e)) ≤ sum naturals (2 * g) w
@@ -23,7 +19,7 @@ class-le g (suc (suc e)) w h = absurd (omega arith)
 
 -- all that comes to one place, of bands no larger than B
 pub weight-le : (g u e m : ℕ) (low high : ℕ → ℤ) (B : ℕ) → e < 2 → g ≤ suc u → u < m
-    → sum naturals m (weight (2 * g) low high B (2 * u + e)) ≤ weighs (2 * g) high * B + weighs (2 * g) low * B
+    → sum naturals m (weight (2 * g) low high B (2 * u + e)) ≤ sizesOf (2 * g) high * B + sizesOf (2 * g) low * B
 weight-le g u e m low high B he hg hu =
     let w : ℕ → ℕ = λ j. natAbs (high j) * B + natAbs (low j) * B in
     let p = reach naturals g u e m (λ j i. w j) he hg hu in

@@ -11,7 +11,7 @@ use lib.IntN.{ℤ, pos, negℤ, natAbs, _*ℤ_}
 use lib.Ieee.{Float, Format}
 use Rattle.numbers.specs.Words.{at, tab}
 use Rattle.numbers.specs.Write.{length-tab, getD-tab}
-use Rattle.whole.specs.Sums.{integers, naturals, sum}
+use Rattle.whole.specs.Sums.{integers, naturals, sum, sizesOf}
 use Rattle.whole.specs.Terms.{alike, reverse}
 use Rattle.whole.specs.Integers.{size-neg}
 use Rattle.whole.specs.Floats.{Whole, atℤ}
@@ -24,7 +24,6 @@ use Rattle.synthesis.specs.Lines.{synthesised}
 use Rattle.exact.specs.Restoring.{squares, sizes, mirror, Premises, Cleared, thereAndBack, Restored, RestoringIsExact}
 use Rattle.exact.specs.Classes.{Restores}
 use Rattle.exact.specs.Mirror.{mirror-restores}
-use Rattle.exact.specs.Bounds.{weighs}
 use Rattle.exact.specs.Four.{Taps, taps-past, general}
 
 -- the high taps as whole numbers
@@ -44,7 +43,7 @@ size-alternate j z = go (eqb (j % 2) 0)
 -- they weigh what the low taps weigh
 highs-weigh : (z : List ℤ) → sizes (highs z) ≡ sizes z
 highs-weigh z =
-    ap (λ (n : ℕ). weighs n (atℤ (highs z))) (length-tab (mirror z) (length z))
+    ap (λ (n : ℕ). sizesOf n (atℤ (highs z))) (length-tab (mirror z) (length z))
     ∙ alike naturals (length z) (λ j. natAbs (atℤ (highs z) j)) (λ j. natAbs (atℤ z (length z - suc j)))
     (λ j l. ap natAbs (highs-at z j l) ∙ size-alternate j (atℤ z (length z - 1 - j)) ∙ ap (λ (i : ℕ). natAbs (atℤ z i)) (there (length z) j))
     ∙ sym (reverse naturals (length z) (λ j. natAbs (atℤ z j)))

@@ -13,6 +13,7 @@ use lib.Ieee.{Float, nan, Format, prec}
 use Rattle.numbers.specs.Words.{plusZero, at}
 use Rattle.numbers.specs.Write.{getD-tab}
 use Rattle.numbers.specs.Places.{getD-any}
+use Rattle.whole.specs.Sums.{sizesOf}
 use Rattle.whole.specs.Terms.{factor-ℕ}
 use Rattle.whole.specs.Floats.{Whole, Within, atℤ, Holds}
 use Rattle.whole.specs.Exact.{zero-whole}
@@ -30,22 +31,22 @@ use Rattle.exact.specs.Restoring.{sizes, Cleared, thereAndBack}
 use Rattle.exact.specs.Classes.{analysedℤ, Restores}
 use Rattle.exact.specs.Weights.{dot-within, join-within}
 use Rattle.exact.specs.Identity.{identity}
-use Rattle.exact.specs.Bounds.{weighs, weight-le, bound-band, bound-join}
+use Rattle.exact.specs.Bounds.{weight-le, bound-band, bound-join}
 
 -- ---- taps, lines and bands as functions of their place
 module _ (f : Format) (g A T : ℕ) (bound : 2 * A * T * T ≤ 2 ^ prec f) (xℤ : ℕ → ℤ) where
-  band-within : (tap x : ℕ → Float) (tapℤ : ℕ → ℤ) → ((k : ℕ) → k < 2 * g → Whole (tap k) (tapℤ k)) → weighs (2 * g) tapℤ ≤ T → ((q : ℕ) → Within (x q) (xℤ q) A)
+  band-within : (tap x : ℕ → Float) (tapℤ : ℕ → ℤ) → ((k : ℕ) → k < 2 * g → Whole (tap k) (tapℤ k)) → sizesOf (2 * g) tapℤ ≤ T → ((q : ℕ) → Within (x q) (xℤ q) A)
       → (i : ℕ) → Within (analysed f (2 * g) tap x i) (analysedℤ (2 * g) tapℤ xℤ i) (T * A)
   unfolding analysed
   band-within tap x tapℤ wt t wx i =
       let s = factor-ℕ A (2 * g) (λ k. natAbs (tapℤ k)) in
-      let k : weighs (2 * g) tapℤ * A ≤ T * A = mul-le-mul-right A t in
+      let k : sizesOf (2 * g) tapℤ * A ≤ T * A = mul-le-mul-right A t in
       let d = dot-within f tap (λ j. x (2 * i + j)) tapℤ (λ j. xℤ (2 * i + j)) A (2 * g) wt (λ j l. wx (2 * i + j)) (2 * g) (le-refl (2 * g)) (omega (arith, s, k, bound-band A T (2 ^ prec f) bound)) in
       (d .0, omega (arith, d .1))
 
   -- a padded place that synthesis gives: 2 g - 2 .. 2 m - 1
   joined-whole : (m : ℕ) (S : ℤ) (low high a d : ℕ → Float) (slℤ shℤ alℤ ahℤ : ℕ → ℤ) (held : Float) (P : ℕ)
-      → ((k : ℕ) → k < 2 * g → Whole (low k) (slℤ k)) → ((k : ℕ) → k < 2 * g → Whole (high k) (shℤ k)) → weighs (2 * g) slℤ ≤ T → weighs (2 * g) shℤ ≤ T
+      → ((k : ℕ) → k < 2 * g → Whole (low k) (slℤ k)) → ((k : ℕ) → k < 2 * g → Whole (high k) (shℤ k)) → sizesOf (2 * g) slℤ ≤ T → sizesOf (2 * g) shℤ ≤ T
       → ((i : ℕ) → i < m → Within (a i) (analysedℤ (2 * g) alℤ xℤ i) (T * A)) → ((i : ℕ) → i < m → Within (d i) (analysedℤ (2 * g) ahℤ xℤ i) (T * A))
       → ((k : ℕ) → 2 * g ≤ k → alℤ k ≡ pos 0) → ((k : ℕ) → 2 * g ≤ k → ahℤ k ≡ pos 0) → Restores g S slℤ shℤ alℤ ahℤ
       → Whole held (pos 0) → 2 * g ≤ P + 2 → P < 2 * m → Whole (joined f (2 * g) low high a d P held m) (S *ℤ xℤ P)
@@ -55,7 +56,7 @@ module _ (f : Format) (g A T : ℕ) (bound : 2 * A * T * T ≤ 2 ^ prec f) (xℤ
       let split : 2 * u + e ≡ P = omega arith in
       let w = weight-le g u e m slℤ shℤ (T * A) (omega arith) (omega arith) (omega arith) in
       let j = join-within f (2 * g) low high a d slℤ shℤ (analysedℤ (2 * g) alℤ xℤ) (analysedℤ (2 * g) ahℤ xℤ) (T * A) (2 * u + e) held m wl wh wa wd clear
-      m (le-refl m) (le-trans w (bound-join A T (2 ^ prec f) (weighs (2 * g) shℤ) (weighs (2 * g) slℤ) bound th tl)) in
+      m (le-refl m) (le-trans w (bound-join A T (2 ^ prec f) (sizesOf (2 * g) shℤ) (sizesOf (2 * g) slℤ) bound th tl)) in
       subst (λ (Q : ℕ). Whole (joined f (2 * g) low high a d Q held m) (S *ℤ xℤ Q)) split
       (subst (λ (z : ℤ). Whole (joined f (2 * g) low high a d (2 * u + e) held m) z) (identity g u e m xℤ (omega arith) (omega arith) S slℤ shℤ alℤ ahℤ (omega arith) zl zh r) (j .0))
 
@@ -69,8 +70,8 @@ pub record Taps (g T : ℕ) (l : List Float) (z : List ℤ) : Type 0 where
 taps-whole : {g T : ℕ} {l : List Float} {z : List ℤ} → Taps g T l z → (k : ℕ) → k < 2 * g → Whole (at l k) (atℤ z k)
 taps-whole t k h = t .holds .whole k (omega (arith, t .count))
 
-taps-weigh : {g T : ℕ} {l : List Float} {z : List ℤ} → Taps g T l z → weighs (2 * g) (atℤ z) ≤ T
-taps-weigh {g} {T} {l} {z} t = subst (λ (n : ℕ). weighs n (atℤ z) ≤ T) (t .count) (t .light)
+taps-weigh : {g T : ℕ} {l : List Float} {z : List ℤ} → Taps g T l z → sizesOf (2 * g) (atℤ z) ≤ T
+taps-weigh {g} {T} {l} {z} t = subst (λ (n : ℕ). sizesOf n (atℤ z) ≤ T) (t .count) (t .light)
 
 pub taps-past : {g T : ℕ} {l : List Float} {z : List ℤ} → Taps g T l z → (k : ℕ) → 2 * g ≤ k → atℤ z k ≡ pos 0
 taps-past {z = z} t k h = let o : length z ≤ k = omega (arith, t .count) in List·getD-eq-default z (pos 0) o

@@ -1,5 +1,5 @@
 -- Laws of four lists of taps in whole numbers: where they meet `Restores`, what synthesis makes of analysis is S times the line, at every place that g pairs reach.
--- The place is a sum over the line, in which each other place has a class of the condition as its weight: S for the place itself, 0 for all others.
+-- The place is a sum over the line, in which every place weighs as much as a class of the condition: S for the place itself, 0 for all others.
 use mathlib.Core.Path.{_≡_, refl, sym, ap, _∙_}
 use Prim.Native.Nat.{ℕ, suc, _+_, _-_, _*_, _≤_, _<_}
 use native.Mathlib.Omega.{arith}

@@ -7,7 +7,7 @@ use lib.ListN.{length}
 use lib.IntN.{ℤ, pos, negℤ, natAbs, _*ℤ_}
 use lib.Ieee.{Float, Format, prec}
 use Rattle.numbers.specs.Words.{longest, at}
-use Rattle.whole.specs.Sums.{integers, naturals, sum}
+use Rattle.whole.specs.Sums.{integers, sum, sizesOf}
 use Rattle.whole.specs.Floats.{Whole, atℤ, Holds}
 use Rattle.border.specs.declared.Border.{Border}
 use Rattle.border.specs.Rule.{padded}
@@ -22,7 +22,7 @@ squares z = sum integers (length z) (λ j. atℤ z j *ℤ atℤ z j)
 
 -- T, the sum of their sizes
 abbrev pub sizes : List ℤ → ℕ
-sizes z = sum naturals (length z) (λ j. natAbs (atℤ z j))
+sizes z = sizesOf (length z) (atℤ z)
 
 -- the sum of the taps' products with themselves shifted by d; a shift back pairs the same taps
 abbrev pub shifted : List ℤ → ℕ → ℤ

@@ -1,4 +1,4 @@
--- Laws of tests in a row: which of them passed is read off the answer; of floats, the code's 0.0 is +0, and what equals itself is no NaN.
+-- Laws of tests in a row: which of them passed is read off the answer, and an answer that is not done is a refusal; of floats, the code's 0.0 is +0, and what equals itself is no NaN.
 use mathlib.Core.Path.{_≡_, refl, sym, ap, _∙_, subst}
 use mathlib.Core.Bool.{Bool, true, false, true≢false, cond, not, _||_, _&&_}
 use lib.Dec.{T}

@@ -1,4 +1,4 @@
--- Laws of the tests: where an answer is done every test passed, which gives the work what it asks for.
+-- Laws of the tests: an answer is done where every test passed, and nowhere else, which gives the work what it asks for.
 use mathlib.Core.Path.{_≡_, refl, sym}
 use Rattle.synthesis.specs.declared.Synthesis.{Synthesis}
 use Rattle.synthesis.specs.declared.Synthesis.the-variants.{Done, ApproxDetailsNotMatches, OutputSizeIsNotValid, ZeroedBaseSize, Limit, Taps}

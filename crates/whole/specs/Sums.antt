@@ -2,7 +2,7 @@
 use mathlib.Core.Path.{_≡_}
 use Prim.Native.Nat.{ℕ, zero, suc, _+_}
 use native.Mathlib.Nat.{zero-add, add-comm, add-assoc}
-use lib.IntN.{ℤ, pos, _+ℤ_, +ℤ-idl, +ℤ-comm, +ℤ-assoc}
+use lib.IntN.{ℤ, pos, natAbs, _+ℤ_, +ℤ-idl, +ℤ-comm, +ℤ-assoc}
 
 -- a way to add, in which neither the order of terms nor brackets matter
 pub record Adding (A : Type 0) : Type 0 where
@@ -22,3 +22,7 @@ integers = record { none = pos 0; plus = _+ℤ_; idl = +ℤ-idl; comm = +ℤ-com
 unfoldable pub sum : {A : Type 0} → Adding A → ℕ → (ℕ → A) → A
 sum P zero g = P .none
 sum P (suc n) g = P .plus (sum P n g) (g n)
+
+-- the sizes of w 0, w 1 and so on, n of them, added
+abbrev pub sizesOf : ℕ → (ℕ → ℤ) → ℕ
+sizesOf n w = sum naturals n (λ k. natAbs (w k))
