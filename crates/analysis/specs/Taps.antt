@@ -4,17 +4,17 @@ use mathlib.Core.List.{List}
 use Prim.Native.Nat.{ℕ, zero, suc, _+_, _*_, _≤_, _<_}
 use native.Mathlib.Numerals.{add-one}
 use native.Mathlib.Omega.{arith}
-use lib.ListN.{length, take}
+use lib.ListN.{length}
 use lib.Ieee.{Float, nan, Format, add, mul, binary64, ofBits}
-use Rattle.numbers.specs.Words.{at, tab, written}
-use Rattle.numbers.specs.Write.{take-written, length-tab, getD-tab}
-use Rattle.numbers.specs.Places.{tab-same}
+use Rattle.numbers.specs.Words.{at, tab}
+use Rattle.numbers.specs.Write.{length-tab}
+use Rattle.numbers.specs.Places.{tab-same, getD-written-in}
 use Rattle.numbers.specs.Tests.{literal-zero}
 use Rattle.border.specs.declared.Border.{Border}
 use Rattle.analysis.specs.Sums.{dot, analysed}
-use Rattle.analysis.specs.Lines.{paddedAt, band}
+use Rattle.analysis.specs.Lines.{paddedAt, paddedInto, band}
 use Rattle.analysis.specs.Works.{bandOf, tapSum}
-use Rattle.bank.specs.Lengths.{pairs}
+use Rattle.bank.specs.Lengths.{pairs, paddedLength}
 
 -- a loop over the taps: as it begins, one tap, and as it ends
 pub sum-start : (taps line : List Float) (from : ℕ) → ofBits binary64 0 ≡ tapSum binary64 taps line from 0
@@ -53,12 +53,11 @@ unfolding band
 length-band f taps F b s = length-tab (analysed f F (at taps) (paddedAt F b s)) (pairs (length s) F)
 
 -- the bands of the padded line at the front of the scratch are the bands of the samples
-pub of-samples : (f : Format) (b : Border) (taps s line scratch : List Float) (F N : ℕ)
-    → line ≡ take N (written (paddedAt F b s) N scratch) → 2 * pairs (length s) F + F ≤ N + 2
+pub of-samples : (f : Format) (b : Border) (taps s line scratch : List Float) (F : ℕ) → line ≡ paddedInto F b s scratch
     → tab (bandOf f taps F line) (pairs (length s) F) ≡ band f taps F b s
 unfolding band tapSum analysed
-of-samples f b taps s line scratch F N e h =
+of-samples f b taps s line scratch F e =
     tab-same (bandOf f taps F line) (analysed f F (at taps) (paddedAt F b s)) (pairs (length s) F)
     (λ i l. dot-same f (at taps) (at taps) (λ j. at line (2 * i + j)) (λ j. paddedAt F b s (2 * i + j)) F (λ j k. refl)
-    (λ j k. ap (λ (y : List Float). at y (2 * i + j)) (e ∙ take-written (paddedAt F b s) N scratch)
-    ∙ getD-tab (paddedAt F b s) N (2 * i + j) nan (omega arith)))
+    (λ j k. ap (λ (y : List Float). at y (2 * i + j)) e
+    ∙ getD-written-in (paddedAt F b s) (paddedLength (length s) F) scratch (2 * i + j) nan (omega arith)))

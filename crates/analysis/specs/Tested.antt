@@ -54,16 +54,13 @@ done-alone (ScratchSize need have) e = absurd (omega arith)
 done-alone Limit e = absurd (omega arith)
 done-alone Taps e = absurd (omega arith)
 
--- the pads of a line whose bands have m places: they may be asked for, and with the line they fill the padded length
-pub pads : (b : Border) (n f m : ℕ) → Analysable n f → m ≡ pairs n f → Paddable b n (f - 2) (2 * m + (f - 2) - n - (f - 2))
-pads b n f m p e = record {
+-- the pads of a line: they may be asked for, and with the line they fill the padded length
+pub pads : (b : Border) (n f : ℕ) → Analysable n f → Paddable b n (f - 2) (2 * pairs n f - n)
+pads b n f p = record {
   some = omega (arith, p .taps .two, p .enough);
   few = p .limit;
   near = λ q h. (omega (arith, p .taps .two, p .enough), omega (arith, p .taps .two, p .enough, p .taps .even));
 }
 
-pub whole : (n f m : ℕ) → Analysable n f → m ≡ pairs n f → f - 2 + n + (2 * m + (f - 2) - n - (f - 2)) ≡ paddedLength n f
-whole n f m p e = omega (arith, p .taps .two, p .enough)
-
-pub needed : (n f m : ℕ) → Analysable n f → m ≡ pairs n f → 2 * m + (f - 2) ≡ paddedLength n f
-needed n f m p e = omega (arith, p .taps .two, p .enough)
+pub whole : (n f : ℕ) → Analysable n f → f - 2 + n + (2 * pairs n f - n) ≡ paddedLength n f
+whole n f p = omega (arith, p .taps .two, p .enough)

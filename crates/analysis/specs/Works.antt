@@ -27,6 +27,17 @@ pub record Bandable (f padded approx detail : ℕ) : Type 0 where
   pub both : detail ≡ approx
   pub within : 2 * approx + f ≤ padded + 2
 
+-- two bands of m places in one buffer
+pub record Beside (f padded both m : ℕ) : Type 0 where
+  pub most : f ≤ 64
+  pub filled : both ≡ m + m
+  pub within : 2 * m + f ≤ padded + 2
+
+-- f taps and a line of n to be padded, and a scratch of s
+pub record Padding (f n s : ℕ) : Type 0 where
+  pub ready : Analysable n f
+  pub room : paddedLength n f ≤ s
+
 -- f taps, a line of n, bands of a and d and a scratch of s that pass every test
 pub record Analysing (f n a d s : ℕ) : Type 0 where
   pub ready : Analysable n f

@@ -1,11 +1,12 @@
 // Both bands of a line, padded or to be padded, for entries to share: sizes have been tested.
 ghost use mathlib.Core.Path.{_≡_};
+ghost use mathlib.Core.List.{_++_};
 ghost use Prim.Native.Nat.{_*_};
 ghost use lib.ListN.{length};
 ghost use lib.Ieee.{binary64, add, mul};
 ghost use Rattle.numbers.specs.Words.{tab};
 ghost use Rattle.analysis.specs.Lines.{band, paddedInto};
-ghost use Rattle.analysis.specs.Works.{tapSum, bandOf, Placeable, Bandable, Analysing};
+ghost use Rattle.analysis.specs.Works.{tapSum, bandOf, Placeable, Bandable, Beside, Padding, Analysing};
 use border::Border;
 use border::pad::pad;
 
@@ -64,6 +65,38 @@ pub fn bands(
     }
 }
 
+// The same into one buffer: the details in front, the approximations behind them.
+pub fn bands_beside(
+    low: &[f64; 64],
+    high: &[f64; 64],
+    f: usize,
+    padded: &[f64],
+    both: &mut [f64],
+    m: usize,
+)
+    requires { ⌜ Beside f (length (now padded)) (length (now both)) m ⌝ }
+    ensures { λ _. ⌜ now (both .exit) ≡ tab (bandOf binary64 (now (high .entry)) f (now (padded .entry))) m ++ tab (bandOf binary64 (now (low .entry)) f (now (padded .entry))) m ⌝ }
+{
+    let mut i = 0usize;
+    while i < m {
+        let p = place(low, high, f, padded, 2 * i);
+        both[i] = p.detail;
+        both[m + i] = p.approx;
+        i += 1;
+    }
+}
+
+// The padded line at the front of the scratch; what lies beyond it stays.
+pub fn pad_line(f: usize, border: Border, line: &[f64], scratch: &mut [f64])
+    requires { ⌜ Padding f (length (now line)) (length (now scratch)) ⌝ }
+    ensures { λ _. ⌜ now (scratch .exit) ≡ paddedInto f border (now (line .entry)) (now (scratch .entry)) ⌝ }
+{
+    let n = line.len();
+    let left = f - 2;
+    let m = (n + f - 1) / 2;
+    pad(border, line, left, 2 * m - n, scratch);
+}
+
 // Both bands of a line, by way of the padded line at the front of the scratch.
 pub fn line_bands(
     low: &[f64; 64],
@@ -80,9 +113,6 @@ pub fn line_bands(
         × (now (detail .exit) ≡ band binary64 (now (high .entry)) f border (now (line .entry)))
         × (now (scratch .exit) ≡ paddedInto f border (now (line .entry)) (now (scratch .entry))) ⌝ }
 {
-    let n = line.len();
-    let left = f - 2;
-    let need = 2 * approx.len() + left;
-    pad(border, line, left, need - n - left, scratch);
-    bands(low, high, f, &scratch[..need], approx, detail);
+    pad_line(f, border, line, scratch);
+    bands(low, high, f, scratch, approx, detail);
 }

@@ -5,7 +5,7 @@ use Prim.Native.Nat.{ℕ, _≤_}
 use lib.ListN.{length}
 use lib.IntN.{ℤ}
 use lib.Ieee.{Float, binary64}
-use Rattle.numbers.specs.Words.{plusZero, tab, whenDone}
+use Rattle.numbers.specs.Words.{cleared, whenDone}
 use Rattle.bank.specs.declared.Bank.{Bank}
 use Rattle.bank.specs.Lengths.{pairs, paddedLength, lineLength}
 use Rattle.analysis.specs.Analyses as Analyses
@@ -32,10 +32,6 @@ answerOf f n a d s o =
     let there = Analyses.answerOf f n a d s in
     let back = Syntheses.answerOf f a d o in
     whenDone (Analyses.numberOf there) (whenDone (Syntheses.numberOf back) Done (Synthesis back)) (Analysis there)
-
--- n places of +0
-abbrev pub cleared : ℕ → List Float
-cleared n = tab (λ p. plusZero) n
 
 -- what the entry makes of its output, which it clears
 abbrev pub backFrom : Bank → List Float → ℕ → List Float

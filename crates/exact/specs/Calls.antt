@@ -7,7 +7,7 @@ use Prim.Native.Nat.{ℕ, zero, suc, _<_}
 use native.Mathlib.Omega.{arith}
 use lib.ListN.{length}
 use lib.Ieee.{Float, nan}
-use Rattle.numbers.specs.Words.{plusZero, whenDone}
+use Rattle.numbers.specs.Words.{plusZero, whenDone, cleared}
 use Rattle.numbers.specs.Write.{length-tab, getD-tab}
 use Rattle.numbers.specs.Tests.{kept, renewed, refused}
 use Rattle.whole.specs.Exact.{zero-whole}
@@ -26,7 +26,7 @@ use Rattle.exact.specs.declared.Back.{Back}
 use Rattle.exact.specs.declared.Back.the-variants as way
 use Rattle.exact.specs.Restoring.{Cleared}
 use Rattle.exact.specs.Entries.{approxed, detailed, approx-length, detail-length, rejoined, entries-restore}
-use Rattle.exact.specs.Backs.{numberOf, answerOf, cleared, Ruled, Returned}
+use Rattle.exact.specs.Backs.{numberOf, answerOf, Ruled, Returned}
 
 module _ (f n a d s o : ℕ) where
   pub there-refused : (r : Analysis) → r ≡ Analyses.answerOf f n a d s → (r ≡ analysis.Done → ⊥) → way.Analysis r ≡ answerOf f n a d s o

@@ -1,7 +1,6 @@
 // There and back: a line into its bands and the bands into a cleared output, which restores the line exactly where that can be.
 ghost use mathlib.Core.Path.{_≡_};
-ghost use lib.ListN.{length};
-ghost use Rattle.exact.specs.Backs.{answerOf, cleared, Returned};
+ghost use Rattle.exact.specs.Backs.{answerOf, Returned};
 use analysis::Analysis;
 use analysis::analyse;
 use analysis::analysis_answer;
@@ -9,6 +8,7 @@ use bank::Bank;
 use synthesis::Synthesis;
 use synthesis::synthesis_answer;
 use synthesis::synthesise;
+use synthesis::work::clear;
 
 // Done, or which way was refused and how.
 pub enum Back {
@@ -37,16 +37,6 @@ pub fn back_answer(
         return Back::Synthesis(back);
     };
     Back::Done
-}
-
-fn clear(line: &mut [f64])
-    ensures { λ _. ⌜ now (line .exit) ≡ cleared (length (now (line .entry))) ⌝ }
-{
-    let mut i = 0usize;
-    while i < line.len() {
-        line[i] = 0.0;
-        i += 1;
-    }
 }
 
 // Both entries, one after the other.

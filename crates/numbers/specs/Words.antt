@@ -41,3 +41,7 @@ module _ {A : Type 0} where
   -- the same as g has them by their own places
   abbrev pub replaced : (ℕ → A) → ℕ → ℕ → List A → List A
   replaced g s n x = placed (λ k. g (s + k)) s n x
+
+-- n places of +0
+abbrev pub cleared : ℕ → List Float
+cleared n = tab (λ p. plusZero) n

@@ -3,7 +3,7 @@ ghost use mathlib.Core.Path.{_≡_};
 ghost use Prim.Native.Nat.{_+_, _-_, _≤_};
 ghost use lib.ListN.{length};
 ghost use lib.Ieee.{binary64};
-ghost use Rattle.numbers.specs.Words.{tab};
+ghost use Rattle.numbers.specs.Words.{cleared, tab};
 ghost use Rattle.synthesis.specs.Lines.{synthesised};
 ghost use Rattle.synthesis.specs.Works.{spreadAt, Joinable, PairsOf, InnerPairs, joinedPairs};
 use numbers::least;
@@ -107,4 +107,30 @@ pub fn join(
     edge(low, high, f, approx, detail, out, 0, start);
     let done = inner(low, high, f, approx, detail, out, start, end);
     edge(low, high, f, approx, detail, out, done, approx.len());
+}
+
+pub fn clear(line: &mut [f64])
+    ensures { λ _. ⌜ now (line .exit) ≡ cleared (length (now (line .entry))) ⌝ }
+{
+    let mut i = 0usize;
+    while i < line.len() {
+        line[i] = 0.0;
+        i += 1;
+    }
+}
+
+// The same into an output that is cleared first.
+pub fn join_cleared(
+    low: &[f64; 64],
+    high: &[f64; 64],
+    f: usize,
+    approx: &[f64],
+    detail: &[f64],
+    out: &mut [f64],
+)
+    requires { ⌜ Joinable f (length (now approx)) (length (now detail)) (length (now out)) ⌝ }
+    ensures { λ _. ⌜ now (out .exit) ≡ synthesised binary64 f (now (low .entry)) (now (high .entry)) (now (approx .entry)) (now (detail .entry)) (cleared (length (now (out .entry)))) ⌝ }
+{
+    clear(out);
+    join(low, high, f, approx, detail, out);
 }

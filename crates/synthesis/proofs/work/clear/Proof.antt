@@ -1,7 +1,7 @@
--- `exact::clear` meets its contract: each turn clears one place more, from the front.
+-- `synthesis::work::clear` meets its contract: each turn clears one place more, from the front.
 use borrow.Author.Needs.{needs}
-use Rattle.exact.proofs.clear.Statement.{statement}
-use Rattle.exact.proofs.clear.Tie as tie
+use Rattle.synthesis.proofs.work.clear.Statement.{statement}
+use Rattle.synthesis.proofs.work.clear.Tie as tie
 use Prim.Native.Nat.{_-_, _≤_}
 use Rattle.numbers.specs.Tests.{literal-zero}
 use Rattle.numbers.specs.Words.{plusZero, written}

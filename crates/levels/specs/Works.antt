@@ -1,0 +1,30 @@
+-- What the functions that entries share ask for, and the line that a level finds. Definitions only.
+use mathlib.Core.Path.{_≡_}
+use mathlib.Core.Bool.{false, cond}
+use mathlib.Core.List.{List}
+use Prim.Native.Nat.{ℕ, _+_, _≤_}
+use lib.Dec.{eqb}
+use lib.ListN.{take, drop}
+use lib.Ieee.{Float}
+use Rattle.bank.specs.Lengths.{Analysable, paddedLength}
+use Rattle.packed.specs.Lengths.{lineAfter, tooShort, detailsTo, levelsScratch}
+use Rattle.packed.specs.Works.{Sound}
+
+-- the n samples that level k + 1 splits: the line's for the first level, else those at `start` in the packed buffer
+abbrev pub lineHeld : List Float → List Float → ℕ → ℕ → ℕ → List Float
+lineHeld line packed k start n = cond (eqb k 0) (take n line) (take n (drop start packed))
+
+-- a line that holds n samples, a packed buffer that holds n from `start` on, and a scratch for them padded
+pub record Held (f line packed start n scratch : ℕ) : Type 0 where
+  pub ready : Analysable n f
+  pub shorter : n ≤ line
+  pub inside : start + n ≤ packed
+  pub room : paddedLength n f ≤ scratch
+
+-- n samples, f taps, one level or more, a packed buffer of p and a scratch of s that pass every test
+pub record Splitting (n f levels p s : ℕ) : Type 0 where
+  pub sound : Sound n f
+  pub some : 1 ≤ levels
+  pub long : tooShort n f levels ≡ false
+  pub filled : p ≡ detailsTo n f levels + lineAfter n f levels
+  pub room : levelsScratch n f ≤ s

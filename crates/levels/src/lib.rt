@@ -1,0 +1,51 @@
+// Analysis over levels: an upper crate over the line filter's promises.
+pub mod work;
+
+ghost use mathlib.Core.Path.{_≡_};
+ghost use Rattle.levels.specs.Analyses.{answerOf, Analysed};
+use crate::work::split;
+use bank::Bank;
+use numbers::most;
+use packed::Levels;
+use packed::packed_answer;
+
+// The tests, on lengths alone.
+pub fn levels_answer(n: usize, f: usize, levels: usize, packed: usize, scratch: usize) -> Levels
+    ensures { λ r. ⌜ r ≡ answerOf n f levels packed scratch ⌝ }
+{
+    let answer = packed_answer(n, f, levels, packed);
+    let Levels::Done = answer else {
+        return answer;
+    };
+    let m = (n + f - 1) / 2;
+    let need = 2 * m + f - 2 + 2 * m;
+    if scratch < need {
+        return Levels::ScratchSize {
+            need,
+            have: scratch,
+        };
+    }
+    Levels::Done
+}
+
+// A line over levels, into the packed buffer.
+pub fn analyse_levels(
+    bank: Bank,
+    line: &[f64],
+    levels: usize,
+    packed: &mut [f64],
+    scratch: &mut [f64],
+) -> Levels
+    ensures { λ r. ⌜ Analysed bank (now (line .entry)) levels (now (packed .entry)) (now (scratch .entry)) r (now (packed .exit)) (now (scratch .exit)) ⌝ }
+{
+    let f = bank.taps;
+    let answer = levels_answer(line.len(), f, levels, packed.len(), scratch.len());
+    let Levels::Done = answer else {
+        return answer;
+    };
+    let border = bank.border;
+    let low = bank.low;
+    let high = bank.high;
+    split(&low, &high, f, border, line, most(levels, 1), packed, scratch);
+    Levels::Done
+}

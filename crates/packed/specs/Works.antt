@@ -1,0 +1,31 @@
+-- What the functions that entries share ask for, and how far down a line was found to go. Definitions only.
+use mathlib.Core.Path.{_≡_}
+use mathlib.Core.Bool.{false}
+use Prim.Native.Nat.{ℕ, _≤_, _<_}
+use Rattle.numbers.specs.Words.{longest}
+use Rattle.bank.specs.Lengths.{GoodTaps}
+use Rattle.packed.specs.declared.depth.Depth.{Depth}
+use Rattle.packed.specs.Lengths.{levelsOf, lineAfter, tooShort, detailsTo}
+
+-- n samples and f taps past 12 and 11
+pub record Sound (n f : ℕ) : Type 0 where
+  pub taps : GoodTaps f
+  pub limit : n ≤ longest
+
+-- and past 1 and 9: each of so many levels has a line to split
+pub record Split (n f levels : ℕ) : Type 0 where
+  pub sound : Sound n f
+  pub long : tooShort n f (levelsOf levels) ≡ false
+
+-- and past 22
+pub record Named (n f levels level : ℕ) : Type 0 where
+  pub split : Split n f levels
+  pub named : level ≤ levelsOf levels
+
+-- so many levels, or as many as the line allows
+pub record Down (n f levels : ℕ) (r : Depth) : Type 0 where
+  pub most : r .levels ≤ levels
+  pub long : tooShort n f (r .levels) ≡ false
+  pub last : r .levels < levels → lineAfter n f (r .levels) < f
+  pub detailed : r .details ≡ detailsTo n f (r .levels)
+  pub left : r .line ≡ lineAfter n f (r .levels)

@@ -1,0 +1,8 @@
+-- Restoring several levels. Definitions: Lines, Restorings, Works. Laws: Steps, Tested, Taps, Unique.
+pub mod Lines
+pub mod Restorings
+pub mod Works
+pub mod Steps
+pub mod Tested
+pub mod Taps
+pub mod Unique

@@ -1,0 +1,34 @@
+-- Restoring several levels: the answers, and what both buffers and the part handed out then hold. Definitions only.
+-- The enum with its numbers and values stands in `packed` (Answers).
+use mathlib.Core.Path.{_≡_}
+use mathlib.Core.Bool.{cond}
+use mathlib.Core.List.{List, []}
+use Prim.Native.Nat.{ℕ}
+use lib.Dec.{ltb}
+use lib.ListN.{length}
+use lib.Ieee.{Float, binary64}
+use Rattle.numbers.specs.Words.{whenDone}
+use Rattle.bank.specs.declared.Bank.{Bank}
+use Rattle.packed.specs.declared.Levels.{Levels}
+use Rattle.packed.specs.declared.Levels.the-variants.{Done, ScratchSize}
+use Rattle.packed.specs.Lengths.{levelsOf, restoringLength}
+use Rattle.packed.specs.Answers.{numberOf, andThen, heldOf}
+use Rattle.restoring.specs.Lines.{restored, firstAfter, secondAfter}
+
+-- the first test that fails, of n samples, f taps, a packed buffer of p and work buffers of a and b: up to 10, then 5 for each
+unfoldable pub answerOf : ℕ → ℕ → ℕ → ℕ → ℕ → ℕ → Levels
+answerOf n f levels p a b =
+    andThen (heldOf n f levels p)
+    (cond (ltb a (restoringLength n f)) (ScratchSize (restoringLength n f) a)
+    (cond (ltb b (restoringLength n f)) (ScratchSize (restoringLength n f) b)
+    Done))
+
+pub record Restored (bank : Bank) (packed : List Float) (n levels : ℕ) (first second : List Float) (r : Levels) (first′ second′ : List Float) : Type 0 where
+  pub answer : r ≡ answerOf n (bank .taps) levels (length packed) (length first) (length second)
+  pub firsts : first′ ≡ whenDone (numberOf r) (firstAfter binary64 (bank .taps) (bank .low) (bank .high) packed n (levelsOf levels) (levelsOf levels) first) first
+  pub seconds : second′ ≡ whenDone (numberOf r) (secondAfter binary64 (bank .taps) (bank .low) (bank .high) packed n (levelsOf levels) (levelsOf levels) second) second
+
+-- the line, and the empty part on a refusal
+pub record HandedOut (bank : Bank) (packed : List Float) (n levels : ℕ) (first second part : List Float) : Type 0 where
+  pub handed : part ≡ whenDone (numberOf (answerOf n (bank .taps) levels (length packed) (length first) (length second)))
+      (restored binary64 (bank .taps) (bank .low) (bank .high) packed n (levelsOf levels)) []

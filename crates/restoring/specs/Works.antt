@@ -1,0 +1,41 @@
+-- What the functions that entries share ask for, and what one join leaves. Definitions only.
+use mathlib.Core.Path.{_≡_}
+use mathlib.Core.Bool.{false, cond}
+use mathlib.Core.List.{List}
+use Prim.Native.Nat.{ℕ, _+_, _%_, _≤_}
+use lib.Dec.{eqb}
+use lib.Ieee.{Float, Format}
+use Rattle.numbers.specs.Words.{longest}
+use Rattle.bank.specs.Lengths.{GoodTaps, lineLength}
+use Rattle.packed.specs.Lengths.{lineAfter, tooShort, detailsTo, restoringLength}
+use Rattle.packed.specs.Works.{Sound}
+use Rattle.restoring.specs.Lines.{joinOf, laid}
+
+-- where join j finds its approximations: in the packed buffer, then in the buffer that the join before wrote
+abbrev pub lineHeld : List Float → List Float → List Float → ℕ → List Float
+lineHeld deepest first second j = cond (eqb j 0) deepest (cond (eqb (j % 2) 0) second first)
+
+-- what join j leaves of either buffer
+abbrev pub turnFirst : Format → ℕ → List Float → List Float → List Float → List Float → ℕ → List Float → List Float
+turnFirst g F low high line detail j x = cond (eqb (j % 2) 0) (laid (joinOf g F low high line detail) x) x
+
+abbrev pub turnSecond : Format → ℕ → List Float → List Float → List Float → List Float → ℕ → List Float → List Float
+turnSecond g F low high line detail j x = cond (eqb (j % 2) 0) x (laid (joinOf g F low high line detail) x)
+
+-- approximations and m details by f taps, whose joined line is no shorter, with room for it in both buffers
+pub record Joining (f deepest m j first second : ℕ) : Type 0 where
+  pub taps : GoodTaps f
+  pub few : m ≤ longest
+  pub deep : j ≡ 0 → m ≤ deepest
+  pub grown : f ≤ m + 2
+  pub room : lineLength m f ≤ first
+  pub space : lineLength m f ≤ second
+
+-- n samples, f taps, one level or more, a packed buffer of p and work buffers of a and b that pass every test
+pub record Restoring (n f levels p a b : ℕ) : Type 0 where
+  pub sound : Sound n f
+  pub some : 1 ≤ levels
+  pub long : tooShort n f levels ≡ false
+  pub filled : p ≡ detailsTo n f levels + lineAfter n f levels
+  pub room : restoringLength n f ≤ a
+  pub space : restoringLength n f ≤ b

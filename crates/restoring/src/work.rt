@@ -1,0 +1,71 @@
+// One join after another, from the deepest level up, for entries to share: sizes have been tested.
+ghost use mathlib.Core.Path.{_≡_};
+ghost use lib.ListN.{length};
+ghost use lib.Ieee.{binary64};
+ghost use Rattle.restoring.specs.Lines.{firstAfter, secondAfter};
+ghost use Rattle.restoring.specs.Works.{lineHeld, turnFirst, turnSecond, Joining, Restoring};
+use packed::depth::part_of;
+use synthesis::work::join_cleared;
+
+// Join j, the deepest being 0: the last approximations into the first buffer, then the front of either buffer into the other.
+fn join_level(
+    low: &[f64; 64],
+    high: &[f64; 64],
+    f: usize,
+    deepest: &[f64],
+    detail: &[f64],
+    j: usize,
+    first: &mut [f64],
+    second: &mut [f64],
+)
+    requires { ⌜ Joining f (length (now deepest)) (length (now detail)) j (length (now first)) (length (now second)) ⌝ }
+    ensures { λ _. ⌜ (now (first .exit) ≡ turnFirst binary64 f (now (low .entry)) (now (high .entry)) (lineHeld (now (deepest .entry)) (now (first .entry)) (now (second .entry)) j) (now (detail .entry)) j (now (first .entry)))
+        × (now (second .exit) ≡ turnSecond binary64 f (now (low .entry)) (now (high .entry)) (lineHeld (now (deepest .entry)) (now (first .entry)) (now (second .entry)) j) (now (detail .entry)) j (now (second .entry))) ⌝ }
+{
+    let m = detail.len();
+    let n = 2 * m + 2 - f;
+    if j == 0 {
+        join_cleared(low, high, f, &deepest[..m], detail, &mut first[..n]);
+    } else if j % 2 == 0 {
+        join_cleared(low, high, f, &second[..m], detail, &mut first[..n]);
+    } else {
+        join_cleared(low, high, f, &first[..m], detail, &mut second[..n]);
+    }
+}
+
+// Every level, from the deepest up.
+pub fn restore(
+    low: &[f64; 64],
+    high: &[f64; 64],
+    f: usize,
+    packed: &[f64],
+    n: usize,
+    levels: usize,
+    first: &mut [f64],
+    second: &mut [f64],
+)
+    requires { ⌜ Restoring n f levels (length (now packed)) (length (now first)) (length (now second)) ⌝ }
+    ensures { λ _. ⌜ (now (first .exit) ≡ firstAfter binary64 f (now (low .entry)) (now (high .entry)) (now (packed .entry)) n levels levels (now (first .entry)))
+        × (now (second .exit) ≡ secondAfter binary64 f (now (low .entry)) (now (high .entry)) (now (packed .entry)) n levels levels (now (second .entry))) ⌝ }
+{
+    let last = part_of(n, f, levels, 0);
+    let start = last.start;
+    let end = start + last.count;
+    let mut j = 0usize;
+    while j < levels {
+        let part = part_of(n, f, levels, levels - j);
+        let from = part.start;
+        let to = from + part.count;
+        join_level(
+            low,
+            high,
+            f,
+            &packed[start..end],
+            &packed[from..to],
+            j,
+            first,
+            second,
+        );
+        j += 1;
+    }
+}
