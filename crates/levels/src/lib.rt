@@ -46,6 +46,15 @@ pub fn analyse_levels(
     let border = bank.border;
     let low = bank.low;
     let high = bank.high;
-    split(&low, &high, f, border, line, most(levels, 1), packed, scratch);
+    split(
+        &low,
+        &high,
+        f,
+        border,
+        line,
+        most(levels, 1),
+        packed,
+        scratch,
+    );
     Levels::Done
 }

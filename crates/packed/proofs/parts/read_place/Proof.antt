@@ -49,8 +49,10 @@ no-place n f levels level place packed e h l =
 there : (n f levels level place start : ℕ) (packed : List Float) → heldOf n f levels (length packed) ≡ Done → level ≤ levelsOf levels → place < levelCount n f levels level
     → start ≡ levelStart n f levels level → Read n f levels level place packed (Value (at packed (start + place)))
 there n f levels level place start packed e h l q =
-    record { answer = went-on _ _ e (ap (λ (k : ℕ). Value (at packed (k + place))) q
-    ∙ sym (cond-false (ltb (levelsOf levels) level) _ _ (le-ltb (levelsOf levels) level h) ∙ cond-false (leb (levelCount n f levels level) place) _ _ (lt-leb (levelCount n f levels level) place l))) }
+    record {
+      answer = went-on _ _ e (ap (λ (k : ℕ). Value (at packed (k + place))) q
+          ∙ sym (cond-false (ltb (levelsOf levels) level) _ _ (le-ltb (levelsOf levels) level h) ∙ cond-false (leb (levelCount n f levels level) place) _ _ (lt-leb (levelCount n f levels level) place l)));
+    }
 
 -- a place of a part is one of the buffer
 in-buffer : (n f levels level place p start count : ℕ) → heldOf n f levels p ≡ Done → level ≤ levelsOf levels → start ≡ levelStart n f levels level → count ≡ levelCount n f levels level
