@@ -114,6 +114,16 @@ unfolding lineAfter detailsTo
 room n f k zero t h = let q : k ≡ 0 = omega arith in rw q (omega arith)
 room n f k (suc levels) t h = ⊎-elim (λ q. rw q (omega arith)) (λ m. let r = room n f k levels t (le-of-suc-le-suc m) in omega (arith, r)) (eq-or-lt-of-le h)
 
+-- no level's line is longer than the first level leaves it
+pub first-longest : (n f k : ℕ) → 2 ≤ f → tooShort n f k ≡ false → 1 ≤ k → lineAfter n f k ≤ pairs n f
+unfolding lineAfter
+first-longest n f zero t e h = absurd (omega arith)
+first-longest n f (suc zero) t e h = omega arith
+first-longest n f (suc (suc k)) t e h =
+    let p = long-before n f (suc k) (suc (suc k)) e (omega arith) in
+    let q = first-longest n f (suc k) t (p .0) (omega arith) in
+    omega (arith, q, falls (lineAfter n f (suc k)) f t (p .1) .0)
+
 -- a shorter line is no longer when it is padded
 pub padded-shorter : (n line f : ℕ) → line ≤ n → paddedLength line f ≤ paddedLength n f
 padded-shorter n line f h = omega arith

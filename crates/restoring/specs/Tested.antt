@@ -1,1 +1,82 @@
--- Laws.
+-- Laws of the tests: an answer is done where every test passed, which gives the work what it asks for, and the part handed out is the restored line.
+use mathlib.Core.Path.{_≡_, refl, sym, ap, _∙_}
+use mathlib.Core.List.{List, []}
+use Prim.Native.Nat.{ℕ, zero, suc, _-_, _%_, _≤_, max}
+use native.Mathlib.Omega.{arith}
+use borrow.Author.Tests.{ltb-false, eq-eqb, ne-eqb}
+use lib.Dec.{ltb, eqb, lit<}
+use lib.ListN.{length, take}
+use lib.Ieee.{Float, Format, binary64}
+use Rattle.numbers.specs.Words.{whenDone}
+use Rattle.numbers.specs.Tests.{passed, refused, kept, renewed, cond-true, cond-false}
+use Rattle.bank.specs.declared.Bank.{Bank}
+use Rattle.bank.specs.Lengths.{lineLength}
+use Rattle.packed.specs.declared.Levels.{Levels}
+use Rattle.packed.specs.declared.Levels.the-variants.{Done}
+use Rattle.packed.specs.Lengths.{levelsOf, lineAfter, restoringLength}
+use Rattle.packed.specs.Answers.{numberOf, heldOf, partAt}
+use Rattle.packed.specs.Tested.{done-alone, both-done, held-done}
+use Rattle.restoring.specs.Lines.{restoredAfter, restored, firstAfter, secondAfter}
+use Rattle.restoring.specs.Restorings.{answerOf, Restored, HandedOut}
+use Rattle.restoring.specs.Steps.{length-join, length-part, whole-length, whole-front}
+use Rattle.restoring.specs.Works.{Restoring}
+
+-- k is the number of levels by another name
+pub restoring : (n f levels k p a b : ℕ) → k ≡ levelsOf levels → answerOf n f levels p a b ≡ Done → Restoring n f k p a b
+unfolding answerOf
+restoring n f levels k p a b z e = rw z (
+    let q = both-done (heldOf n f levels p) _ e in
+    let d = held-done n f levels p (q .0) in
+    let t = passed numberOf (ltb a (restoringLength n f)) (q .1) (lit< tt) refl in
+    let u = passed numberOf (ltb b (restoringLength n f)) (t .1) (lit< tt) refl in
+    record {
+      sound = d .0 .sound;
+      some = omega arith;
+      long = d .0 .long;
+      filled = d .1;
+      room = ltb-false a (restoringLength n f) (t .0);
+      space = ltb-false b (restoringLength n f) (u .0);
+    }
+    )
+
+-- the whole line has the first level's synthesis length
+pub length-restored : (g : Format) (low high packed : List Float) (n F levels p a b : ℕ) → Restoring n F levels p a b → length packed ≡ p
+    → length (restored g F low high packed n levels) ≡ restoringLength n F
+unfolding restoredAfter lineAfter
+length-restored g low high packed n F zero p a b w e = absurd (omega (arith, w .some))
+length-restored g low high packed n F (suc j) p a b w e =
+    let one : suc j - j ≡ 1 = omega arith in
+    length-join g F low high (restoredAfter g F low high packed n (suc j) j) (partAt n F (suc j) packed (suc j - j))
+    ∙ ap (λ (k : ℕ). lineLength (length (partAt n F (suc j) packed k)) F) one
+    ∙ ap (λ (m : ℕ). lineLength m F) (length-part n F (suc j) 1 packed (w .sound .taps .two) (omega arith) (e ∙ whole-length w))
+
+-- ---- the part handed out: none on a refusal, else the front of the buffer that holds the line
+pub none-handed : {bank : Bank} {packed : List Float} {n levels : ℕ} {first second : List Float} (r : Levels)
+    → r ≡ answerOf n (bank .taps) levels (length packed) (length first) (length second) → (r ≡ Done → ⊥) → HandedOut bank packed n levels first second []
+none-handed r e h = record { handed = kept _ (refused numberOf done-alone _ (λ q. h (e ∙ q))) _ [] }
+
+module _ (bank : Bank) (packed : List Float) (n levels : ℕ) (first second first′ second′ : List Float) (r : Levels) (k m : ℕ)
+    (p : Restored bank packed n levels first second r first′ second′) (done : r ≡ Done) (count : k ≡ levelsOf levels) (long : m ≡ restoringLength n (bank .taps)) where
+  all : Restoring n (bank .taps) (levelsOf levels) (length packed) (length first) (length second)
+  all = restoring n (bank .taps) levels (levelsOf levels) (length packed) (length first) (length second) refl (sym (p .answer) ∙ done)
+
+  abbrev line : List Float
+  line = restored binary64 (bank .taps) (bank .low) (bank .high) packed n (levelsOf levels)
+
+  as-handed : {part : List Float} → part ≡ line → HandedOut bank packed n levels first second part
+  as-handed e = record { handed = e ∙ sym (ap (λ (a : Levels). whenDone (numberOf a) line []) (sym (p .answer) ∙ done)) }
+
+  length-line : m ≡ length line
+  length-line = long ∙ sym (length-restored binary64 (bank .low) (bank .high) packed n (bank .taps) (levelsOf levels) _ _ _ all refl)
+
+  pub second-handed : k % 2 ≡ 0 → HandedOut bank packed n levels first second (take m second′)
+  second-handed e =
+      as-handed
+      (ap (take m) (renewed _ second (ap numberOf done) (p .seconds) ∙ sym (cond-true (eqb (levelsOf levels % 2) 0) _ _ (eq-eqb (levelsOf levels % 2) 0 (ap (λ (j : ℕ). j % 2) (sym count) ∙ e))))
+      ∙ whole-front binary64 (bank .taps) (bank .low) (bank .high) packed n (levelsOf levels) m first second (all .some) length-line)
+
+  pub first-handed : (k % 2 ≡ 0 → ⊥) → HandedOut bank packed n levels first second (take m first′)
+  first-handed h =
+      as-handed
+      (ap (take m) (renewed _ first (ap numberOf done) (p .firsts) ∙ sym (cond-false (eqb (levelsOf levels % 2) 0) _ _ (ne-eqb (levelsOf levels % 2) 0 (λ e. h (ap (λ (j : ℕ). j % 2) count ∙ e)))))
+      ∙ whole-front binary64 (bank .taps) (bank .low) (bank .high) packed n (levelsOf levels) m first second (all .some) length-line)

@@ -1,1 +1,16 @@
--- Laws.
+-- Laws of what the entries promise: any two outcomes that a promise admits are equal, since each is an equation of the answer and of both buffers, or of the part handed out.
+use mathlib.Core.Path.{_≡_, sym, _∙_}
+use mathlib.Core.List.{List}
+use Prim.Native.Nat.{ℕ}
+use lib.Ieee.{Float}
+use Rattle.bank.specs.declared.Bank.{Bank}
+use Rattle.packed.specs.declared.Levels.{Levels}
+use Rattle.restoring.specs.Restorings.{Restored, HandedOut}
+
+pub unique-restore-levels : {bank : Bank} {packed : List Float} {n levels : ℕ} {first second : List Float} {r r′ : Levels} {a b a′ b′ : List Float}
+    → Restored bank packed n levels first second r a b → Restored bank packed n levels first second r′ a′ b′ → (r ≡ r′) × (a ≡ a′) × (b ≡ b′)
+unique-restore-levels p q = let e = p .answer ∙ sym (q .answer) in (e, (cc), (cc))
+
+pub unique-restored-line : {bank : Bank} {packed : List Float} {n levels : ℕ} {first second part part′ : List Float}
+    → HandedOut bank packed n levels first second part → HandedOut bank packed n levels first second part′ → part ≡ part′
+unique-restored-line p q = p .handed ∙ sym (q .handed)

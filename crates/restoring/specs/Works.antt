@@ -22,8 +22,16 @@ turnFirst g F low high line detail j x = cond (eqb (j % 2) 0) (laid (joinOf g F 
 abbrev pub turnSecond : Format → ℕ → List Float → List Float → List Float → List Float → ℕ → List Float → List Float
 turnSecond g F low high line detail j x = cond (eqb (j % 2) 0) x (laid (joinOf g F low high line detail) x)
 
--- approximations and m details by f taps, whose joined line is no shorter, with room for it in both buffers
-pub record Joining (f deepest m j first second : ℕ) : Type 0 where
+-- a line and m details by f taps, whose joined line is no shorter than they are, and an output with room for it
+pub record Joining (f line m out : ℕ) : Type 0 where
+  pub taps : GoodTaps f
+  pub few : m ≤ longest
+  pub trimmed : m ≤ line
+  pub grown : f ≤ m + 2
+  pub room : lineLength m f ≤ out
+
+-- the same for join j between two buffers
+pub record Turning (f deepest m j first second : ℕ) : Type 0 where
   pub taps : GoodTaps f
   pub few : m ≤ longest
   pub deep : j ≡ 0 → m ≤ deepest

@@ -2,10 +2,27 @@
 ghost use mathlib.Core.Path.{_≡_};
 ghost use lib.ListN.{length};
 ghost use lib.Ieee.{binary64};
-ghost use Rattle.restoring.specs.Lines.{firstAfter, secondAfter};
-ghost use Rattle.restoring.specs.Works.{lineHeld, turnFirst, turnSecond, Joining, Restoring};
+ghost use Rattle.restoring.specs.Lines.{joinOf, laid, firstAfter, secondAfter};
+ghost use Rattle.restoring.specs.Works.{lineHeld, turnFirst, turnSecond, Joining, Turning, Restoring};
 use packed::depth::part_of;
 use synthesis::work::join_cleared;
+
+// One join at the front of a buffer: the line trimmed to as many as the details, the output cleared.
+fn join_front(
+    low: &[f64; 64],
+    high: &[f64; 64],
+    f: usize,
+    line: &[f64],
+    detail: &[f64],
+    out: &mut [f64],
+)
+    requires { ⌜ Joining f (length (now line)) (length (now detail)) (length (now out)) ⌝ }
+    ensures { λ _. ⌜ now (out .exit) ≡ laid (joinOf binary64 f (now (low .entry)) (now (high .entry)) (now (line .entry)) (now (detail .entry))) (now (out .entry)) ⌝ }
+{
+    let m = detail.len();
+    let n = 2 * m + 2 - f;
+    join_cleared(low, high, f, &line[..m], detail, &mut out[..n]);
+}
 
 // Join j, the deepest being 0: the last approximations into the first buffer, then the front of either buffer into the other.
 fn join_level(
@@ -18,18 +35,16 @@ fn join_level(
     first: &mut [f64],
     second: &mut [f64],
 )
-    requires { ⌜ Joining f (length (now deepest)) (length (now detail)) j (length (now first)) (length (now second)) ⌝ }
+    requires { ⌜ Turning f (length (now deepest)) (length (now detail)) j (length (now first)) (length (now second)) ⌝ }
     ensures { λ _. ⌜ (now (first .exit) ≡ turnFirst binary64 f (now (low .entry)) (now (high .entry)) (lineHeld (now (deepest .entry)) (now (first .entry)) (now (second .entry)) j) (now (detail .entry)) j (now (first .entry)))
         × (now (second .exit) ≡ turnSecond binary64 f (now (low .entry)) (now (high .entry)) (lineHeld (now (deepest .entry)) (now (first .entry)) (now (second .entry)) j) (now (detail .entry)) j (now (second .entry))) ⌝ }
 {
-    let m = detail.len();
-    let n = 2 * m + 2 - f;
     if j == 0 {
-        join_cleared(low, high, f, &deepest[..m], detail, &mut first[..n]);
+        join_front(low, high, f, deepest, detail, first);
     } else if j % 2 == 0 {
-        join_cleared(low, high, f, &second[..m], detail, &mut first[..n]);
+        join_front(low, high, f, second, detail, first);
     } else {
-        join_cleared(low, high, f, &first[..m], detail, &mut second[..n]);
+        join_front(low, high, f, first, detail, second);
     }
 }
 

@@ -1,0 +1,110 @@
+-- `restoring::restored_line` meets its contract: where restoring is refused the part is empty, and else it is the front of the buffer that holds the line.
+use borrow.Author.Needs.{needs}
+use denote.Enum.Declared.{tagOf, declared}
+use denote.Ref.{now}
+use lib.Dec.{lit<}
+use lib.ListN.{length}
+use lib.Seq.{length-take-le}
+use mathlib.Core.Path.{_≡_, _∙_, refl, sym}
+use native.Mathlib.Omega.{arith}
+use Rattle.numbers.specs.Tests.{key-above, other}
+use Rattle.packed.proofs.Levels.{enum}
+use Rattle.packed.specs.Falls.{line-none, long-before}
+use Rattle.packed.specs.Lengths.{levelsOf}
+use Rattle.restoring.specs.Tested.{restoring, none-handed, first-handed, second-handed}
+use Rattle.restoring.specs.Works.{Restoring}
+use Rattle.restoring.proofs.restored_line.Statement.{statement}
+use Rattle.restoring.proofs.restored_line.Tie as tie
+
+restore-levels-requires : tie.Need-restore-levels-requires
+restore-levels-requires c κs = search needs
+
+enum-told : tie.Need-enum-told
+enum-told c = search needs
+
+slice-aggregate-result : tie.Need-slice-aggregate-result
+slice-aggregate-result c = search needs
+
+returns : tie.Need-returns
+returns c =
+    let k = c .before in
+    let r = k .before .before .before .before .before .restore-levels .result in
+    none-handed r (k .before .before .before .before .before .restore-levels .ensures .answer) (other (tagOf (declared enum)) r refl (key-above 5 1 _ (lit< tt) (k .match .keys2)))
+
+-- every test passed
+all : (c : tie.After-enum-told) → let a = c .before .before .before .before .before .before .before .before .before .before .before .before .args in
+    Restoring (a .n) (a .bank .taps) (levelsOf (a .levels)) (length (now (a .packed))) (length (now (a .first))) (length (now (a .second)))
+all c =
+    let w = c .before .before .before .before .before .before in
+    let a = w .before .before .before .before .before .before .args in
+    restoring (a .n) (a .bank .taps) (a .levels) (levelsOf (a .levels)) _ _ _ refl (sym (w .restore-levels .ensures .answer) ∙ c .enum-told .given .1)
+
+add-length : tie.Need-add-length
+add-length c = omega (arith, all c .sound .limit, all c .sound .taps .most)
+
+sub-length : tie.Need-sub-length
+sub-length c = omega (arith, all c .sound .taps .two)
+
+mul-length : tie.Need-mul-length
+mul-length c = omega (arith, all c .sound .limit, all c .sound .taps .most)
+
+add-length-2 : tie.Need-add-length-2
+add-length-2 c = omega (arith, all c .sound .limit, all c .sound .taps .most)
+
+-- the first line is no shorter than f
+sub-length-2 : tie.Need-sub-length-2
+sub-length-2 c =
+    let a = c .before .before .before .before .before .before .before .before .before .before .before .before .args in
+    omega (arith, long-before (a .n) (a .bank .taps) 0 _ (all c .long) (omega arith) .1, line-none (a .n) (a .bank .taps), all c .sound .taps .two)
+
+most-requires : tie.Need-most-requires
+most-requires c κs = search needs
+
+slice-aggregate-result-2 : tie.Need-slice-aggregate-result-2
+slice-aggregate-result-2 c =
+    let e = c .before .before .before in
+    let w = e .before .before .before .before .before .before in
+    sym (length-take-le _ _ (omega (arith, all e .space, w .restore-levels .kept .1 .1 .1 .1 .1 .0)))
+
+slice-aggregate-result-3 : tie.Need-slice-aggregate-result-3
+slice-aggregate-result-3 c =
+    let e = c .before .before .before in
+    let w = e .before .before .before .before .before .before in
+    sym (length-take-le _ _ (omega (arith, all e .room, w .restore-levels .kept .1 .1 .1 .1 .0)))
+
+returns-2 : tie.Need-returns-2
+returns-2 c =
+    let t = c .before in
+    let e = t .before .before in
+    let w = e .before .before .before .before .before .before in
+    let a = w .before .before .before .before .before .before .args in
+    second-handed (a .bank) (now (a .packed)) (a .n) (a .levels) (now (a .first)) (now (a .second)) _ _ (w .restore-levels .result) (t .before .most .result) _
+    (w .restore-levels .ensures) (e .enum-told .given .1) (t .before .most .ensures) refl (t .if1 .taken)
+
+returns-3 : tie.Need-returns-3
+returns-3 c =
+    let t = c .before in
+    let e = t .before .before in
+    let w = e .before .before .before .before .before .before in
+    let a = w .before .before .before .before .before .before .args in
+    first-handed (a .bank) (now (a .packed)) (a .n) (a .levels) (now (a .first)) (now (a .second)) _ _ (w .restore-levels .result) (t .before .most .result) _
+    (w .restore-levels .ensures) (e .enum-told .given .1) (t .before .most .ensures) refl (t .if1 .left)
+
+pub restored-line-spec : {M : Type 1} → statement M
+restored-line-spec =
+    tie.close
+    (tie.spec
+    restore-levels-requires
+    enum-told
+    slice-aggregate-result
+    returns
+    add-length
+    sub-length
+    mul-length
+    add-length-2
+    sub-length-2
+    most-requires
+    slice-aggregate-result-2
+    slice-aggregate-result-3
+    returns-2
+    returns-3)
