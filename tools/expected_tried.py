@@ -1,4 +1,4 @@
-"""expected_tried PROGRAM: prints what `tried`, `tried_sums`, `tried_refusals` or `tried_exact` has to write, from document 01's rules and numbers alone.
+"""expected_tried PROGRAM: prints what `tried`, `tried_sums`, `tried_refusals`, `tried_exact` or `tried_levels` has to write, from document 01's rules and numbers alone.
 
     python3 tools/expected_tried.py tried | diff - crates/tried/stdout
 
@@ -452,5 +452,335 @@ told('66 taps, 1048577 samples', (12,), back_answer(66, 1048577, 0, 0, 0, 0))
 told('4 taps, 1048577 samples', (11,), back_answer(4, 1048577, 0, 0, 0, 0))
 told('64 taps, 1048576 samples, output short', (4, 1048575, 1048576), back_answer(64, 1048576, 524319, 524319, 1048700, 1048575))
 told('64 taps, 1048576 samples', (0,), back_answer(64, 1048576, 524319, 524319, 1048700, 1048576))
+
+# --- levels
+program = 'tried_levels'
+HUGE = 2 ** 64 - 1
+def eights(n): return [8.0] * n
+def counted_up(n): return [float(i + 1) for i in range(n)]
+
+# --- the document's rules of levels, over those of one line
+def pairs(n, f): return (n + f - 1) // 2
+def too_short(n, f, levels):
+    """whether any level's line is shorter than f"""
+    return n < f or levels > 1 and too_short(pairs(n, f), f, levels - 1)
+def counts(n, f, levels):
+    """how many details each level has, which is as many as it has approximations"""
+    return [pairs(n, f)] + (counts(pairs(n, f), f, levels - 1) if levels > 1 else [])
+def packed_need(n, f, levels):
+    c = counts(n, f, levels)
+    return sum(c) + c[-1]
+def scratch_need(n, f):
+    m = pairs(n, f)
+    return n + (2 * m + f - 2 - n) + 2 * m
+def work_need(n, f): return 2 * pairs(n, f) - f + 2
+def part_at(n, f, levels, level):
+    """where a level's part begins and how long it is: details 1, details 2 and so on, then the last approximations, which are level 0"""
+    c = counts(n, f, levels)
+    return (sum(c), c[-1]) if level == 0 else (sum(c[:level - 1]), c[level - 1])
+def asked_answer(n, f, levels):
+    if bad(f): return (12,)
+    if n > LIMIT: return (11,)
+    if too_short(n, f, levels): return (9,) if levels > 1 else (1, n, f)
+    return (0,)
+def held_answer(n, f, levels, p):
+    r = asked_answer(n, f, levels)
+    if r == (0,) and p != packed_need(n, f, levels): return (10, packed_need(n, f, levels), p)
+    return r
+def levels_answer(n, f, levels, p, s):
+    levels = max(levels, 1)
+    r = held_answer(n, f, levels, p)
+    if r == (0,) and s < scratch_need(n, f): return (5, scratch_need(n, f), s)
+    return r
+def restoring_answer(n, f, levels, p, first, second):
+    levels = max(levels, 1)
+    r = held_answer(n, f, levels, p)
+    for have in (first, second):
+        if r == (0,) and have < work_need(n, f): r = (5, work_need(n, f), have)
+    return r
+def handing_answer(n, f, levels, p, level):
+    levels = max(levels, 1)
+    r = held_answer(n, f, levels, p)
+    return (22, level) if r == (0,) and level > levels else r
+
+def split_line(bank, line, levels, s):
+    """details 1, details 2 and so on, then the last approximations; each level's padded line goes to the front of the scratch"""
+    m = pairs(len(line), bank.f)
+    r, a, d, s = analyse(bank, line, sevens(m), sevens(m), s)
+    assert r == (0,)
+    if levels == 1: return d + a, s
+    packed, s = split_line(bank, a, levels - 1, s)
+    return d + packed, s
+def analyse_levels(bank, line, levels, packed, s):
+    r = levels_answer(len(line), bank.f, levels, len(packed), len(s))
+    if r != (0,): return r, packed, s
+    whole_packed, s = split_line(bank, line, max(levels, 1), s)
+    assert len(whole_packed) == len(packed)
+    return r, whole_packed, s
+def joined_lines(bank, packed, n, levels, level):
+    """the line of each join from the deepest level up to this one"""
+    start, m = part_at(n, bank.f, levels, level)
+    if level == levels:
+        before = []
+        last, count = part_at(n, bank.f, levels, 0)
+        approx = packed[last:last + count]
+    else:
+        before = joined_lines(bank, packed, n, levels, level + 1)
+        approx = before[-1]
+    r, line = synthesise(bank, approx[:m], packed[start:start + m], [0.0] * (2 * m - bank.f + 2))
+    assert r == (0,)
+    return before + [line]
+def restore_levels(bank, packed, n, levels, first, second):
+    r = restoring_answer(n, bank.f, levels, len(packed), len(first), len(second))
+    if r != (0,): return r, first, second, []
+    lines = joined_lines(bank, packed, n, max(levels, 1), 1)
+    for j, line in enumerate(lines):
+        if j % 2 == 0: first = onto(first, line)
+        else: second = onto(second, line)
+    holds = first if max(levels, 1) % 2 == 1 else second
+    assert len(lines[-1]) == work_need(n, bank.f)
+    return r, first, second, holds[:work_need(n, bank.f)]
+
+# --- sizes of levels
+def level_size(entry, n, f, levels, need):
+    head('%s %d %d %d' % (entry, n, f, levels))
+    levels = max(levels, 1)
+    r = asked_answer(n, f, levels)
+    if r == (0,): r = (0, need(n, f, levels))
+    answer(r); return r
+def lengths(n, f, levels):
+    return (level_size('packed_length', n, f, levels, packed_need),
+        level_size('levels_scratch', n, f, levels, lambda n, f, levels: scratch_need(n, f)),
+        level_size('restoring_length', n, f, levels, lambda n, f, levels: work_need(n, f)))
+def part(n, f, levels, level):
+    head('level_part %d %d %d %d' % (n, f, levels, level))
+    levels = max(levels, 1)
+    r = asked_answer(n, f, levels)
+    if r == (0,): r = (22, level) if level > levels else (0,) + part_at(n, f, levels, level)
+    answer(r); return r
+def deepest(n, f):
+    head('most_levels %d %d' % (n, f))
+    r = asked_answer(n, f, 1)
+    if r == (0,):
+        k = 1
+        while asked_answer(n, f, k + 1) == (0,): k = k + 1
+        r = (0, k)
+    answer(r); return r
+# P10, P2, P3
+assert lengths(5, 2, 2) == ((0, 7), (0, 6 + 6), (0, 6))
+assert [part(5, 2, 2, k) for k in (1, 2, 0)] == [(0, 0, 3), (0, 3, 2), (0, 5, 2)]
+assert lengths(3, 4, 1) == ((1, 3, 4),) * 3
+assert lengths(3, 4, 2) == ((9,),) * 3
+assert lengths(4, 4, 2) == ((9,),) * 3 and pairs(4, 4) == 3
+assert lengths(5, 4, 0) == lengths(5, 4, 1) == ((0, 8), (0, 10 + 8), (0, 6))
+assert lengths(3, 4, 0) == ((1, 3, 4),) * 3
+assert part(5, 4, 0, 0) == part(5, 4, 1, 0) == (0, 4, 4)
+assert part(5, 4, 0, 1) == part(5, 4, 1, 1) == (0, 0, 4)
+assert part(5, 4, 0, 2) == (22, 2) and part(3, 4, 0, 2) == (1, 3, 4)
+for f in (0, 3, 65, 66, HUGE): assert lengths(10, f, 2) + (part(10, f, 2, 9), deepest(10, f)) == ((12,),) * 5
+assert lengths(1048577, 4, 2) + (part(1048577, 4, 2, 9), deepest(1048577, 4)) + lengths(HUGE, 4, 0) == ((11,),) * 8
+assert lengths(0, 2, 1) == ((1, 0, 2),) * 3
+assert lengths(0, 2, 2) + lengths(4, 4, HUGE) + lengths(1048576, 2, HUGE) == ((9,),) * 9
+assert lengths(1048577, 3, HUGE) == ((12,),) * 3 and lengths(HUGE, 4, HUGE) == ((11,),) * 3 and lengths(3, 5, 2) == ((12,),) * 3
+assert [part(HUGE, 66, 2, 9), part(3, 4, 2, 9), part(3, 4, 1, 9), part(4, 4, 2, 9), part(4, 4, 1, HUGE)] == [(12,), (9,), (1, 3, 4), (9,), (22, HUGE)]
+assert [part(7, 4, 3, k) for k in (1, 2, 3, 0, 4)] == [(0, 0, 5), (0, 5, 4), (0, 9, 3), (0, 12, 3), (22, 4)]
+assert [part(1048576, 2, 20, k) for k in (1, 20, 0, 21)] == [(0, 0, 524288), (0, 1048574, 1), (0, 1048575, 1), (22, 21)]
+assert [deepest(n, 2) for n in (1, 2, 3, 4, 5, 1048575, 1048576)] == [(1, 1, 2), (0, 1), (0, 2), (0, 2), (0, 3), (0, 20), (0, 20)]
+assert [deepest(n, 4) for n in (3, 4, 5, 7, 10)] == [(1, 3, 4), (0, 1), (0, 2), (0, 3), (0, 3)]
+deepest(1048576, 4)
+assert [deepest(n, 64) for n in (63, 64, 65)] == [(1, 63, 64), (0, 1), (0, 2)]
+deepest(1048576, 64)
+assert lengths(1048576, 2, 20) == ((0, 1048576), (0, 2097152), (0, 1048576))
+assert lengths(1048576, 2, 21) == ((9,),) * 3
+for n, f, levels in ((1048575, 2, 20), (64, 64, 1), (64, 64, 2), (65, 64, 2), (1048576, 64, 3), (1048575, 64, 3)): lengths(n, f, levels)
+
+# --- analyses over levels
+def levelled(name, bank, line, levels, packed, s):
+    head(name)
+    r, packed, s = analyse_levels(bank, line, levels, packed, s)
+    answer(r); buf('packed', packed); buf('scratch', s)
+    return r, packed, s
+def two_tapped(b): return Bank([1.0, 1.0], [1.0, -1.0], b)
+def fives(name, b, levels, p):
+    r, packed, s = levelled(name, two_tapped(b), [10.0, 20.0, 30.0, 40.0, 60.0], levels, sevens(p), sevens(14))
+    assert r == (0,)
+    return packed, s
+packed, s = fives('P10: two levels, Wrap', 'Wrap', 2, 7)
+assert packed == [-10, -10, 50, -40, 40, 100, 100] and s == [30, 70, 70, 30, 60, 10] + sevens(8)
+assert fives('levels 0, Wrap', 'Wrap', 0, 6) == fives('one level, Wrap', 'Wrap', 1, 6)
+for b in ('Wrap', 'Zeros', 'Clamp'): fives('three levels, ' + b, b, 3, 7)
+levelled('eight samples, three levels', two_tapped('Reflect'), [2.0 ** i for i in range(8)], 3, sevens(8), sevens(16))
+levelled('four samples by four taps, one level', Bank(low8, mirror(low8), 'Reflect101'), [1.0, 2.0, 3.0, 4.0], 1, sevens(6), sevens(14))
+for b in BORDERS: levelled('ten samples, ' + b, Bank(tens, apart, b), counted_up(9) + [1.5], 3, sevens(16), sevens(28))
+for b in BORDERS: levelled('seven samples, ' + b, Bank(tens, apart, b), counted_up(7), 2, sevens(13), sevens(28))
+parted = Bank([1.0, 0.0], [0.0, 1.0], 'Zeros')
+levelled('two levels of infinity and NaN', parted, [1.0, INF, 2.0, 3.0, NAN, 4.0], 2, sevens(7), sevens(12))
+levelled('two levels of -0', parted, [-0.0] * 6, 2, sevens(7), sevens(12))
+
+# --- parts and places
+def handed(packed, n, f, levels, level):
+    head('level_details %d %d %d %d %d' % (len(packed), n, f, levels, level))
+    r = handing_answer(n, f, levels, len(packed), level)
+    start, count = part_at(n, f, max(levels, 1), level) if r == (0,) else (0, 0)
+    answer(r); buf('part', packed[start:start + count])
+    return r, packed[start:start + count]
+def read(packed, n, f, levels, level, place):
+    head('read_place %d %d %d %d %d %d' % (len(packed), n, f, levels, level, place))
+    r = handing_answer(n, f, levels, len(packed), level)
+    if r == (0,):
+        start, count = part_at(n, f, max(levels, 1), level)
+        if place >= count: r = (23, place)
+    answer(r)
+    if r == (0,): buf('value', [packed[start + place]])
+    return r
+up = counted_up(15)
+assert [handed(up[:7], 5, 2, 2, k)[1] for k in (1, 2, 0)] == [[1, 2, 3], [4, 5], [6, 7]]
+assert [handed(up[:7], 5, 2, 3, k)[1] for k in (1, 2, 3, 0)] == [[1, 2, 3], [4, 5], [6], [7]]
+for levels in (0, 1): assert [handed(up[:6], 5, 2, levels, k)[1] for k in (1, 0)] == [[1, 2, 3], [4, 5, 6]]
+assert [len(handed(up, 7, 4, 3, k)[1]) for k in (1, 2, 3, 0)] == [5, 4, 3, 3]
+def unhanded(want, p, n, f, levels, level): assert handed(sevens(p), n, f, levels, level) == (want, []), want
+for want, told_n, f, levels in (((12,), 5, 3, 2), ((12,), 1048577, 3, 2), ((11,), 1048577, 4, 2), ((1, 3, 4), 3, 4, 1), ((1, 3, 4), 3, 4, 0), ((9,), 4, 4, 2), ((9,), 5, 2, HUGE), ((10, 7, 6), 5, 2, 2)):
+    unhanded(want, 6, told_n, f, levels, 9)
+unhanded((10, 7, 8), 8, 5, 2, 2, 1); unhanded((10, 7, 0), 0, 5, 2, 2, 0)
+unhanded((22, 3), 7, 5, 2, 2, 3); unhanded((22, 2), 6, 5, 2, 0, 2); unhanded((22, HUGE), 7, 5, 2, 3, HUGE)
+odd_ones = [1.0, -0.0, NAN, 4.0, INF, 6.0, 7.0]
+for level, place in ((1, 0), (1, 1), (1, 2), (2, 0), (2, 1), (0, 0), (0, 1)): assert read(odd_ones, 5, 2, 2, level, place) == (0,)
+for level in (1, 0): assert read(odd_ones[:6], 5, 2, 0, level, 2) == (0,)
+def unread(want, p, n, f, levels, level, place): assert read(sevens(p), n, f, levels, level, place) == want, want
+for want, told_n, f, levels in (((12,), 1048577, 3, 2), ((11,), 1048577, 4, 2), ((1, 3, 4), 3, 4, 1), ((9,), 4, 4, 2), ((10, 7, 6), 5, 2, 2)): unread(want, 6, told_n, f, levels, 9, 9)
+for want, level, place in (((22, 3), 3, 9), ((23, 3), 1, 3), ((23, 2), 2, 2), ((23, 2), 0, 2), ((23, HUGE), 1, HUGE), ((22, HUGE), HUGE, 0)): unread(want, 7, 5, 2, 2, level, place)
+
+# --- restorings
+def joined_levels(name, bank, packed, n, levels, first, second):
+    head(name)
+    r, first, second, line = restore_levels(bank, packed, n, levels, first, second)
+    answer(r); buf('first', first); buf('second', second)
+    return r, first, second, line
+def line_of(name, bank, packed, n, levels, first, second):
+    head(name)
+    r, first, second, line = restore_levels(bank, packed, n, levels, first, second)
+    buf('line', line); buf('first', first); buf('second', second)
+    return r, first, second, line
+sums = two_tapped('Zeros')
+one_level, more_levels = [1.0, 2.0, 3.0, 10.0, 20.0, 30.0], [1.0, 2.0, 3.0, 10.0, 20.0, 100.0, 1000.0]
+def by_two(name, packed, n, levels):
+    r, first, second, line = joined_levels(name, sums, packed, n, levels, sevens(9), eights(8))
+    assert r == (0,) and len(line) == 6
+    return first, second
+assert by_two('levels 0 of five samples', one_level, 5, 0) == by_two('one level of five samples', one_level, 5, 1) == ([11, 9, 22, 18, 33, 27] + sevens(3), eights(8))
+first, second = by_two('two levels of five samples', more_levels, 5, 2)
+assert first == [110, 90, 1020, 980] + sevens(5) and second == [111, 109, 92, 88, 1023, 1017, 8, 8]
+first, second = by_two('three levels of five samples', more_levels, 5, 3)
+assert second == [1110, 1090, 920, 880] + eights(4) and first == [1111, 1109, 1092, 1088, 923, 917] + sevens(3)
+by_two('one level of six samples', one_level, 6, 1); by_two('two levels of six samples', more_levels, 6, 2); by_two('three levels of six samples', more_levels, 6, 3)
+assert [hexed(x) for x in by_two('two levels of -0', [-0.0] * 7, 5, 2)[1][:6]] == ['0' * 16] * 6
+up = counted_up(16)
+for name, levels, p in (('one level', 1, 10), ('two levels', 2, 13), ('three levels', 3, 15)): joined_levels(name + ' of seven samples', q, up[:p], 7, levels, sevens(8), eights(11))
+joined_levels('three levels of ten samples', q, up, 10, 3, sevens(12), eights(10))
+for name, bank, p, n, levels in (('levels 0', sums, 6, 5, 0), ('one level', sums, 6, 5, 1), ('two levels', sums, 7, 5, 2), ('three levels', sums, 7, 6, 3), ('two levels, four taps', q, 13, 8, 2), ('three levels, four taps', q, 15, 7, 3)):
+    assert line_of('the line of ' + name, bank, up[:p], n, levels, sevens(9), eights(9))[0] == (0,)
+
+# --- there and back over levels
+def there_again(name, bank, again, line, levels):
+    n, f = len(line), bank.f
+    r, packed, s = levelled(name, bank, line, levels, sevens(packed_need(n, f, levels)), sevens(32))
+    assert r == (0,)
+    r, first, second, back_line = line_of('and back', again, packed, n, levels, sevens(10), eights(10))
+    assert r == (0,) and len(back_line) == n + n % 2
+    return back_line
+def and_next(border, line): return line + ([sample(border, line, len(line))] if len(line) % 2 else [])
+pi5, pi8 = [3.0, -1.0, 4.0, -1.0, 5.0], [3.0, -1.0, 4.0, -1.0, 5.0, -9.0, 2.0, -6.0]
+for name, line, levels in (('five samples, two levels', pi5, 2), ('five samples, three levels', pi5, 3), ('eight samples, three levels', pi8, 3)):
+    assert there_again('halves and ones, ' + name, Bank([0.5, 0.5], [0.5, -0.5], 'Clamp'), two_tapped('Clamp'), line, levels) == and_next('Clamp', line)
+lowh = [0.5, 0.5, 0.5, -0.5]
+for b in BORDERS: assert there_again('four halves, ' + b, Bank(lowh, mirror(lowh), b), Bank(lowh, mirror(lowh), b), pi8[:7], 3) == and_next(b, pi8[:7])
+sixed = Bank(lowf, mirror(lowf), 'Reflect')
+there_again('fractions, six taps, three levels', sixed, sixed, [0.1, 0.7, -0.3, 1.9, 0.6, -2.3, 0.9, 0.2, -1.1], 3)
+
+# A join by these taps gives S = 2 times its line where the details are as large as the approximations: level k's are to be 2^(L-k) times what they were.
+def powered(name, line, levels, raising, raised):
+    n, S, bank = len(line), 2, two_tapped('Clamp')
+    r, packed, s = levelled(name, bank, line, levels, sevens(packed_need(n, 2, levels)), sevens(2 * n + (2 if n % 2 else 0) + 1))
+    times = S ** levels
+    plain = joined_levels('joined as they are', bank, packed, n, levels, sevens(9), eights(9))[3]
+    assert plain != [times * x for x in and_next('Clamp', line)]
+    scale = [S ** (levels - k) for k in range(1, levels + 1) for _ in range(part_at(n, 2, levels, k)[1])] + [1] * part_at(n, 2, levels, 0)[1]
+    assert [x * y for x, y in zip(packed, scale)] == raised
+    whole_line = joined_levels('%s: %d times the line' % (raising, times), bank, raised, n, levels, sevens(9), eights(9))[3]
+    assert whole_line == [times * x for x in and_next('Clamp', line)]
+powered('taps 1 1, five samples, two levels', pi5, 2, 'details 1 doubled', [8.0, 10.0, 0.0, -1.0, 0.0, 5.0, 20.0])
+powered('taps 1 1, eight samples, three levels', pi8, 3, 'details 1 by 4, details 2 by 2', [16.0, 20.0, 56.0, 32.0, -2.0, 0.0, 13.0, -3.0])
+
+head('64 taps and 65 samples, all 1, two levels')
+wide = Bank(ones, mirror(ones), 'Reflect')
+r, packed, s = analyse_levels(wide, [1.0] * 65, 2, sevens(190), sevens(319))
+answer(r)
+ends('packed', packed); others('packed places that are not 0', packed, 0.0); others('packed places that are not 4096', packed, 4096.0)
+ends('scratch', s); others('scratch places that are not 7', s, 7.0); others('scratch places that are not 64', s, 64.0)
+r, first, second, line = restore_levels(wide, packed, 65, 2, sevens(67), eights(66))
+answer(r)
+ends('first', first); others('places of the first that are not 131072', first, 131072.0)
+ends('second', second); others('places of the second that are not 4194304', second, 4194304.0)
+assert packed == [0.0] * 127 + [4096.0] * 63 and line == [4194304.0] * 66
+
+# --- refused levels
+def llent(name, want, bank, n, levels, p, s):
+    r, packed, s2 = levelled(name, bank, [1.0] * n, levels, sevens(p), sevens(s))
+    assert r == want and packed == sevens(p) and s2 == sevens(s), (name, r)
+llent('lists that differ, nothing lent', (12,), Bank([1.0] * 4, [1.0] * 2, 'Wrap'), 2, 2, 0, 0)
+llent('no taps, no line', (12,), counted(0), 0, 0, 0, 0)
+llent('3 taps, 2 samples, all wrong', (12,), counted(3), 2, 2, 1, 1)
+llent('66 taps, all wrong', (12,), counted(66), 2, 1, 1, 1)
+llent('P2: one level, all wrong', (1, 3, 4), counted(4), 3, 1, 1, 1)
+llent('P2: levels 0, all wrong', (1, 3, 4), counted(4), 3, 0, 1, 1)
+llent('P2: two levels, all wrong', (9,), counted(4), 3, 2, 1, 1)
+llent('P3: two levels, all wrong', (9,), counted(4), 4, 2, 1, 1)
+llent('no samples, one level', (1, 0, 2), counted(2), 0, 1, 0, 0)
+llent('no samples, two levels', (9,), counted(2), 0, 2, 0, 0)
+llent('one level too many', (9,), counted(2), 5, 4, 7, 12)
+llent('18446744073709551615 levels', (9,), counted(2), 5, HUGE, 7, 12)
+llent('packed and scratch short', (10, 7, 6), counted(2), 5, 2, 6, 11)
+llent('packed a place too long', (10, 7, 8), counted(2), 5, 2, 8, 12)
+llent('packed with all approximations', (10, 7, 10), counted(2), 5, 2, 10, 12)
+llent('no packed', (10, 7, 0), counted(2), 5, 2, 0, 12)
+llent('packed of one level for two', (10, 7, 6), counted(2), 5, 2, 6, 12)
+llent('packed of two levels for one', (10, 6, 7), counted(2), 5, 1, 7, 12)
+llent('scratch a place short', (5, 12, 11), counted(2), 5, 2, 7, 11)
+llent("scratch of one line's analysis", (5, 12, 6), counted(2), 5, 1, 6, 6)
+llent('no scratch, levels 0', (5, 4, 0), counted(2), 2, 0, 2, 0)
+told('3 taps, 1048577 samples', (12,), levels_answer(1048577, 3, 2, 0, 0))
+told('4 taps, 1048577 samples', (11,), levels_answer(1048577, 4, 2, 0, 0))
+told('1048576 samples, 21 levels', (9,), levels_answer(1048576, 2, 21, 1048576, 2097152))
+told('1048576 samples, 20 levels, packed and scratch short', (10, 1048576, 1048575), levels_answer(1048576, 2, 20, 1048575, 2097151))
+told('1048576 samples, 20 levels, scratch short', (5, 2097152, 2097151), levels_answer(1048576, 2, 20, 1048576, 2097151))
+told('1048576 samples, 20 levels', (0,), levels_answer(1048576, 2, 20, 1048576, 2097152))
+def wlent(name, want, f, n, levels, p, a, b):
+    r, first, second, line = joined_levels(name, counted(f), [1.0] * p, n, levels, sevens(a), eights(b))
+    assert r == want and first == sevens(a) and second == eights(b) and line == [], (name, r)
+wlent('no taps, nothing lent', (12,), 0, 0, 0, 0, 0, 0)
+wlent('3 taps, all wrong', (12,), 3, 2, 2, 1, 1, 1)
+wlent('3 taps, 1048577 samples', (12,), 3, 1048577, 2, 1, 1, 1)
+wlent('4 taps, 1048577 samples', (11,), 4, 1048577, 2, 1, 1, 1)
+wlent('P2: one level, all wrong', (1, 3, 4), 4, 3, 1, 1, 1, 1)
+wlent('P2: levels 0, all wrong', (1, 3, 4), 4, 3, 0, 1, 1, 1)
+wlent('P2: two levels, all wrong', (9,), 4, 3, 2, 1, 1, 1)
+wlent('P3: two levels, all wrong', (9,), 4, 4, 2, 1, 1, 1)
+wlent('no samples, one level', (1, 0, 2), 2, 0, 1, 0, 0, 0)
+wlent('18446744073709551615 levels', (9,), 2, 5, HUGE, 7, 6, 6)
+wlent('packed and both buffers short', (10, 7, 6), 2, 5, 2, 6, 5, 4)
+wlent('packed a place too long', (10, 7, 8), 2, 5, 2, 8, 6, 6)
+wlent('no packed', (10, 7, 0), 2, 5, 2, 0, 6, 6)
+wlent('packed of two levels for one', (10, 6, 7), 2, 5, 1, 7, 6, 6)
+wlent('both buffers short', (5, 6, 5), 2, 5, 2, 7, 5, 4)
+wlent('the first short', (5, 6, 5), 2, 5, 2, 7, 5, 6)
+wlent('the second short', (5, 6, 4), 2, 5, 2, 7, 6, 4)
+wlent('the second short, one level', (5, 6, 5), 2, 5, 1, 6, 6, 5)
+wlent('no buffers, levels 0', (5, 2, 0), 2, 2, 0, 2, 0, 0)
+for name, f, p, a, b in (('3 taps', 3, 7, 8, 8), ('packed a place too long', 2, 8, 8, 8), ('the first empty', 2, 7, 0, 8), ('the second short', 2, 7, 8, 5)):
+    assert line_of('no line: ' + name, counted(f), [1.0] * p, 5, 2, sevens(a), eights(b))[1:] == (sevens(a), eights(b), [])
+top = 1048576
+for name, want, levels, p, a, b in (('21 levels', (9,), 21, top, top, top), ('20 levels, packed short', (10, top, top - 1), 20, top - 1, top - 1, top - 1),
+        ('20 levels, both short', (5, top, top - 1), 20, top, top - 1, top - 2), ('20 levels, the second short', (5, top, top - 2), 20, top, top, top - 2), ('20 levels', (0,), 20, top, top, top)):
+    told('1048576 samples, ' + name, want, restoring_answer(1048576, 2, levels, p, a, b))
 
 sys.stdout.write('\n'.join(texts[sys.argv[1]]) + '\n')

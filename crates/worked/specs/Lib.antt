@@ -2,6 +2,7 @@
 pub mod Whole
 pub mod Lines
 pub mod Kernels
+pub mod Levels
 pub mod Meeting
 pub mod Premised
 pub mod Restoring

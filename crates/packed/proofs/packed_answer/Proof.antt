@@ -16,6 +16,7 @@ use mathlib.Core.Bool.{cond, not}
 use mathlib.Core.Logic.{_≢_}
 use mathlib.Core.Path.{_≡_, _∙_, refl, sym, ap}
 use Prim.Native.Nat.{ℕ}
+use native.Mathlib.Omega.{arith}
 use lib.Dec.{eqb}
 
 asked-answer-requires : tie.Need-asked-answer-requires
@@ -52,13 +53,13 @@ returns-2 : tie.Need-returns-2
 returns-2 c =
     let w = c .before in
     let a = w .before .before .before .before .args in
-    wrong (a .n) (a .f) (a .levels) (a .packed) (w .packed-need .result) (asked (w .before)) (w .packed-need .ensures) (c .if1 .taken)
+    wrong (a .n) (a .f) (a .levels) (a .packed) (w .packed-need .result) (asked (w .before)) (w .packed-need .ensures) (λ e. absurd (omega (arith, e, c .if1 .taken)))
 
 returns-3 : tie.Need-returns-3
 returns-3 c =
     let w = c .before in
     let a = w .before .before .before .before .args in
-    right (a .n) (a .f) (a .levels) (a .packed) (w .packed-need .result) (asked (w .before)) (w .packed-need .ensures) (c .if1 .left)
+    right (a .n) (a .f) (a .levels) (a .packed) (w .packed-need .result) (asked (w .before)) (w .packed-need .ensures) (omega (arith, c .if1 .left))
 
 pub packed-answer-spec : {M : Type 1} → statement M
 packed-answer-spec = tie.close (tie.spec asked-answer-requires enum-told returns packed-need-requires returns-2 returns-3)

@@ -79,7 +79,7 @@ returns-2 c =
     let w = e .before .before .before .before .before .before in
     let a = w .before .before .before .before .before .before .args in
     second-handed (a .bank) (now (a .packed)) (a .n) (a .levels) (now (a .first)) (now (a .second)) _ _ (w .restore-levels .result) (t .before .most .result) _
-    (w .restore-levels .ensures) (e .enum-told .given .1) (t .before .most .ensures) refl (t .if1 .taken)
+    (w .restore-levels .ensures) (e .enum-told .given .1) (t .before .most .ensures) refl (omega (arith, t .if1 .taken))
 
 returns-3 : tie.Need-returns-3
 returns-3 c =
@@ -88,7 +88,7 @@ returns-3 c =
     let w = e .before .before .before .before .before .before in
     let a = w .before .before .before .before .before .before .args in
     first-handed (a .bank) (now (a .packed)) (a .n) (a .levels) (now (a .first)) (now (a .second)) _ _ (w .restore-levels .result) (t .before .most .result) _
-    (w .restore-levels .ensures) (e .enum-told .given .1) (t .before .most .ensures) refl (t .if1 .left)
+    (w .restore-levels .ensures) (e .enum-told .given .1) (t .before .most .ensures) refl (λ e. absurd (omega (arith, e, t .if1 .left)))
 
 pub restored-line-spec : {M : Type 1} → statement M
 restored-line-spec =

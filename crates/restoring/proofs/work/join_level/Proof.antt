@@ -82,8 +82,8 @@ returns-2 c =
     let f = c .before .before in
     let t = f .before .before .before in
     let a = t .before .before .before .before .before .before .args in
-    into-first (a .f) (now (a .low)) (now (a .high)) (now (a .deepest)) (now (a .detail)) (now (a .first)) (now (a .second)) (a .j) (now (a .second)) (t .if2 .taken)
-    (is-second (a .f) (now (a .low)) (now (a .high)) (now (a .deepest)) (now (a .detail)) (now (a .first)) (now (a .second)) (a .j) (t .before .if1 .left) (t .if2 .taken)) (f .join-front2 .ensures)
+    into-first (a .f) (now (a .low)) (now (a .high)) (now (a .deepest)) (now (a .detail)) (now (a .first)) (now (a .second)) (a .j) (now (a .second)) (omega (arith, t .if2 .taken))
+    (is-second (a .f) (now (a .low)) (now (a .high)) (now (a .deepest)) (now (a .detail)) (now (a .first)) (now (a .second)) (a .j) (t .before .if1 .left) (omega (arith, t .if2 .taken))) (f .join-front2 .ensures)
 
 same-length-4 : tie.Need-same-length-4
 same-length-4 c = search needs
@@ -96,8 +96,8 @@ returns-3 c =
     let f = c .before .before in
     let t = f .before .before .before in
     let a = t .before .before .before .before .before .before .args in
-    into-second (a .f) (now (a .low)) (now (a .high)) (now (a .deepest)) (now (a .detail)) (now (a .first)) (now (a .second)) (a .j) (now (a .first)) (t .if2 .left)
-    (is-first (a .f) (now (a .low)) (now (a .high)) (now (a .deepest)) (now (a .detail)) (now (a .first)) (now (a .second)) (a .j) (t .before .if1 .left) (t .if2 .left)) (f .join-front3 .ensures)
+    into-second (a .f) (now (a .low)) (now (a .high)) (now (a .deepest)) (now (a .detail)) (now (a .first)) (now (a .second)) (a .j) (now (a .first)) (λ e. absurd (omega (arith, e, t .if2 .left)))
+    (is-first (a .f) (now (a .low)) (now (a .high)) (now (a .deepest)) (now (a .detail)) (now (a .first)) (now (a .second)) (a .j) (t .before .if1 .left) (λ e. absurd (omega (arith, e, t .if2 .left)))) (f .join-front3 .ensures)
 
 pub join-level-spec : {M : Type 1} → statement M
 join-level-spec =
