@@ -1,17 +1,17 @@
 -- Laws of one level more: what the loop over the levels finds, writes and leaves is the recursion's next line, details and scratch.
 use mathlib.Core.Path.{_≡_, refl, sym, ap, _∙_}
-use mathlib.Core.List.{List, [], _++_}
-use Prim.Native.Nat.{ℕ, zero, suc, _+_, _-_, _*_, _≤_, _<_}
+use mathlib.Core.List.{List, _++_}
+use Prim.Native.Nat.{ℕ, zero, suc, _+_, _-_, _≤_, _<_}
 use native.Mathlib.Numerals.{add-one}
 use native.Mathlib.Omega.{arith}
-use borrow.Author.Tests.{ne-eqb, eq-eqb}
+use borrow.Author.Tests.{ne-eqb}
 use borrow.Rule.Slice.PartMut.{putMid}
 use lib.Dec.{eqb}
 use lib.ListN.{length, take, drop, length-append, length-drop, take-append-drop}
 use lib.Seq.{length-take-le, take-all, take-length, take-at, take-append-le, drop-append-le, take-append-add, drop-append-add, drop-at}
 use lib.Ieee.{Float, Format, binary64}
 use Rattle.numbers.specs.Words.{tab}
-use Rattle.numbers.specs.Tests.{cond-true, cond-false}
+use Rattle.numbers.specs.Tests.{cond-false}
 use Rattle.border.specs.declared.Border.{Border}
 use Rattle.bank.specs.Lengths.{pairs}
 use Rattle.analysis.specs.Lines.{band, paddedInto}

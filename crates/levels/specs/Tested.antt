@@ -1,6 +1,6 @@
 -- Laws of the tests: an answer is done where every test passed, which gives the work what it asks for.
 use mathlib.Core.Path.{_≡_, refl}
-use Prim.Native.Nat.{ℕ, max}
+use Prim.Native.Nat.{ℕ}
 use native.Mathlib.Omega.{arith}
 use borrow.Author.Tests.{ltb-false}
 use lib.Dec.{ltb, lit<}

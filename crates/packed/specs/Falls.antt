@@ -1,6 +1,6 @@
 -- Laws of the lengths of levels: a level halves what its line has above f - 1 samples, so lengths fall until a line is shorter than f, after 20 levels at the most, and stay so.
 use mathlib.Core.Path.{_≡_, refl, sym, ap, _∙_}
-use mathlib.Core.Bool.{Bool, true, false, cond, _||_}
+use mathlib.Core.Bool.{Bool, true, false, cond}
 use mathlib.Core.Logic.{⊎-elim}
 use Prim.Native.Nat.{ℕ, zero, suc, _+_, _-_, _*_, _/_, _≤_, _<_}
 use native.Mathlib.Numerals.{add-one}
@@ -9,7 +9,6 @@ use native.Mathlib.Decide.{decLt}
 use native.Mathlib.Omega.{arith}
 use borrow.Author.Tests.{ltb-false, lt-ltb, le-ltb}
 use lib.Dec.{ltb}
-use Rattle.numbers.specs.Words.{longest}
 use Rattle.numbers.specs.Tests.{neither, cond-true, cond-false}
 use Rattle.bank.specs.Lengths.{pairs, paddedLength, GoodTaps}
 use Rattle.packed.specs.Lengths.{lineAfter, tooShort, detailsTo, longLines, mostLevels}

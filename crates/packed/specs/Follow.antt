@@ -1,8 +1,8 @@
 -- Laws of the packed buffer's parts: they follow each other without gap and fill it.
-use mathlib.Core.Path.{_≡_, refl, sym, ap}
-use Prim.Native.Nat.{ℕ, zero, suc, _+_, _≤_, _<_, max}
+use mathlib.Core.Path.{_≡_, refl}
+use Prim.Native.Nat.{ℕ, zero, suc, _+_, _≤_}
 use native.Mathlib.Omega.{arith}
-use Rattle.packed.specs.Lengths.{levelsOf, lineAfter, detailsTo, packedLength, levelStart, levelCount}
+use Rattle.packed.specs.Lengths.{levelsOf, detailsTo, packedLength, levelStart, levelCount}
 use Rattle.packed.specs.Falls.{room}
 
 -- details 1 begin the buffer

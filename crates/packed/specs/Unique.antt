@@ -5,8 +5,9 @@ use Prim.Native.Nat.{ℕ}
 use lib.Ieee.{Float}
 use Rattle.packed.specs.declared.sizes.LevelSize.{LevelSize}
 use Rattle.packed.specs.declared.sizes.LevelPart.{LevelPart}
+use Rattle.packed.specs.declared.parts.Handing.{Handing}
 use Rattle.packed.specs.declared.parts.Reading.{Reading}
-use Rattle.packed.specs.Answers.{PackedSized, ScratchSized, RestoringSized, MostSized, PartSized, HandedOut, Read}
+use Rattle.packed.specs.Answers.{PackedSized, ScratchSized, RestoringSized, MostSized, PartSized, handingOf, HandedOut, Read}
 
 pub unique-packed-length : {n f levels : ℕ} {r r′ : LevelSize} → PackedSized n f levels r → PackedSized n f levels r′ → r ≡ r′
 unique-packed-length p q = p .answer ∙ sym (q .answer)
@@ -25,6 +26,9 @@ unique-level-part p q = p .answer ∙ sym (q .answer)
 
 pub unique-level-details : {n f levels level : ℕ} {packed part part′ : List Float} → HandedOut n f levels level packed part → HandedOut n f levels level packed part′ → part ≡ part′
 unique-level-details p q = p .handed ∙ sym (q .handed)
+
+pub unique-handing-answer : (n f levels p level : ℕ) {r r′ : Handing} → r ≡ handingOf n f levels p level → r′ ≡ handingOf n f levels p level → r ≡ r′
+unique-handing-answer n f levels p level e q = e ∙ sym q
 
 pub unique-read-place : {n f levels level place : ℕ} {packed : List Float} {r r′ : Reading} → Read n f levels level place packed r → Read n f levels level place packed r′ → r ≡ r′
 unique-read-place p q = p .answer ∙ sym (q .answer)

@@ -1,6 +1,5 @@
 // The packed buffer's parts, handed out and read; level 0 names the last approximations.
 ghost use mathlib.Core.Path.{_≡_};
-ghost use lib.ListN.{length};
 ghost use Rattle.packed.specs.Answers.{handingOf, HandedOut, Read};
 use crate::Levels;
 use crate::depth::part_of;

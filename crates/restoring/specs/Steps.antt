@@ -1,8 +1,8 @@
 -- Laws of one join more: what the loop over the levels finds at a buffer's front, joins and lays there is the recursion's next line, and every length is in its place.
 use mathlib.Core.Path.{_≡_, refl, sym, ap, _∙_}
-use mathlib.Core.Bool.{Bool, true, false, cond}
+use mathlib.Core.Bool.{cond}
 use mathlib.Core.List.{List, _++_}
-use Prim.Native.Nat.{ℕ, zero, suc, _+_, _-_, _*_, _%_, _≤_, _<_, max}
+use Prim.Native.Nat.{ℕ, zero, suc, _+_, _-_, _%_, _≤_, _<_}
 use native.Mathlib.Numerals.{add-one}
 use native.Mathlib.Decide.{decLt}
 use native.Mathlib.Omega.{arith}
@@ -11,7 +11,7 @@ use lib.Dec.{eqb}
 use lib.ListN.{length, take, drop, length-drop}
 use lib.Seq.{length-take-le, take-append-le, take-length}
 use lib.Ieee.{Float, Format}
-use Rattle.numbers.specs.Words.{longest, cleared}
+use Rattle.numbers.specs.Words.{cleared}
 use Rattle.numbers.specs.Write.{length-tab}
 use Rattle.numbers.specs.Tests.{cond-true, cond-false}
 use Rattle.bank.specs.Lengths.{pairs, lineLength}

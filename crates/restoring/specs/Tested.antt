@@ -1,7 +1,7 @@
 -- Laws of the tests: an answer is done where every test passed, which gives the work what it asks for, and the part handed out is the restored line.
 use mathlib.Core.Path.{_≡_, refl, sym, ap, _∙_}
 use mathlib.Core.List.{List, []}
-use Prim.Native.Nat.{ℕ, zero, suc, _-_, _%_, _≤_, max}
+use Prim.Native.Nat.{ℕ, zero, suc, _-_, _%_}
 use native.Mathlib.Omega.{arith}
 use borrow.Author.Tests.{ltb-false, eq-eqb, ne-eqb}
 use lib.Dec.{ltb, eqb, lit<}
@@ -16,7 +16,7 @@ use Rattle.packed.specs.declared.Levels.the-variants.{Done}
 use Rattle.packed.specs.Lengths.{levelsOf, lineAfter, restoringLength}
 use Rattle.packed.specs.Answers.{numberOf, heldOf, partAt}
 use Rattle.packed.specs.Tested.{done-alone, both-done, held-done}
-use Rattle.restoring.specs.Lines.{restoredAfter, restored, firstAfter, secondAfter}
+use Rattle.restoring.specs.Lines.{restoredAfter, restored}
 use Rattle.restoring.specs.Restorings.{answerOf, Restored, HandedOut}
 use Rattle.restoring.specs.Steps.{length-join, length-part, whole-length, whole-front}
 use Rattle.restoring.specs.Works.{Restoring}

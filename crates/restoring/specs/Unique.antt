@@ -5,7 +5,7 @@ use Prim.Native.Nat.{ℕ}
 use lib.Ieee.{Float}
 use Rattle.bank.specs.declared.Bank.{Bank}
 use Rattle.packed.specs.declared.Levels.{Levels}
-use Rattle.restoring.specs.Restorings.{Restored, HandedOut}
+use Rattle.restoring.specs.Restorings.{answerOf, Restored, HandedOut}
 
 pub unique-restore-levels : {bank : Bank} {packed : List Float} {n levels : ℕ} {first second : List Float} {r r′ : Levels} {a b a′ b′ : List Float}
     → Restored bank packed n levels first second r a b → Restored bank packed n levels first second r′ a′ b′ → (r ≡ r′) × (a ≡ a′) × (b ≡ b′)
@@ -14,3 +14,6 @@ unique-restore-levels p q = let e = p .answer ∙ sym (q .answer) in (e, (cc), (
 pub unique-restored-line : {bank : Bank} {packed : List Float} {n levels : ℕ} {first second part part′ : List Float}
     → HandedOut bank packed n levels first second part → HandedOut bank packed n levels first second part′ → part ≡ part′
 unique-restored-line p q = p .handed ∙ sym (q .handed)
+
+pub unique-restoring-answer : (n f levels p a b : ℕ) {r r′ : Levels} → r ≡ answerOf n f levels p a b → r′ ≡ answerOf n f levels p a b → r ≡ r′
+unique-restoring-answer n f levels p a b e q = e ∙ sym q

@@ -2,8 +2,6 @@
 use borrow.Author.Needs.{needs}
 use borrow.Author.Tests.{le-ltb, lt-ltb}
 use Rattle.bank.specs.Tested.{good-taps}
-use Rattle.numbers.specs.Words.{longest}
-use Rattle.packed.specs.declared.Levels.the-variants.{Done, MinFilterSize, BufferWasTooSmallForLevel}
 use Rattle.packed.specs.Answers.{askedOf}
 use Rattle.packed.specs.Lengths.{levelsOf, tooShort}
 use Rattle.packed.specs.Tested.{not-all}
@@ -11,7 +9,6 @@ use Rattle.packed.proofs.asked_answer.Statement.{statement}
 use Rattle.packed.proofs.asked_answer.Tie as tie
 use mathlib.Core.Bool.{true, false}
 use mathlib.Core.Path.{_≡_, _∙_, sym, ap}
-use native.Mathlib.Omega.{arith}
 
 bad-taps-requires : tie.Need-bad-taps-requires
 bad-taps-requires c κs = search needs

@@ -5,7 +5,6 @@ use denote.Enum.Declared.{tagOf, declared}
 use lib.Dec.{lit<}
 use Rattle.numbers.specs.Tests.{key-above, other}
 use Rattle.packed.proofs.Levels.{enum}
-use Rattle.packed.specs.declared.Levels.{Levels}
 use Rattle.packed.specs.declared.Levels.the-variants.{Done, InputSize}
 use Rattle.packed.specs.Answers.{heldOf, askedOf}
 use Rattle.packed.specs.Lengths.{packedLength}

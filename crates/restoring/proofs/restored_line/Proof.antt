@@ -5,7 +5,7 @@ use denote.Ref.{now}
 use lib.Dec.{lit<}
 use lib.ListN.{length}
 use lib.Seq.{length-take-le}
-use mathlib.Core.Path.{_≡_, _∙_, refl, sym}
+use mathlib.Core.Path.{_∙_, refl, sym}
 use native.Mathlib.Omega.{arith}
 use Rattle.numbers.specs.Tests.{key-above, other}
 use Rattle.packed.proofs.Levels.{enum}

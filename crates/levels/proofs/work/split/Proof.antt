@@ -9,9 +9,9 @@ use Rattle.bank.specs.Lengths.{pairs}
 use Rattle.packed.specs.Falls.{line-none, details-none, details-next}
 use borrow.Rule.Slice.PartMut.{mid-len, same-len-mid}
 use Rattle.packed.specs.Lengths.{lineAfter, detailsTo}
-use Prim.Native.Nat.{ℕ, _+_, _-_, _≤_, _<_}
-use lib.Ieee.{Float, binary64}
-use lib.ListN.{length, take, drop}
+use Prim.Native.Nat.{ℕ, _+_, _-_, _≤_}
+use lib.Ieee.{binary64}
+use lib.ListN.{length, take}
 use mathlib.Core.Path.{_≡_, _∙_, refl, sym, ap}
 use native.Mathlib.Omega.{arith}
 use denote.Ref.{now}

@@ -1,7 +1,7 @@
 -- `packed::depth::down` meets its contract: each turn goes down one level, which has a line to split, and the lengths stay under the limit's.
 use borrow.Author.Needs.{needs}
 use borrow.Author.Tests.{leb-true, leb-false}
-use Prim.Native.Nat.{ℕ, _+_, _-_, _*_, _≤_, _<_}
+use Prim.Native.Nat.{ℕ, _+_, _-_, _*_, _≤_}
 use Rattle.bank.specs.Lengths.{pairs}
 use Rattle.packed.specs.Lengths.{lineAfter, tooShort, detailsTo}
 use Rattle.packed.specs.Works.{Sound}

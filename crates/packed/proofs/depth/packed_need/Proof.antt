@@ -2,13 +2,13 @@
 use borrow.Author.Needs.{needs}
 use Prim.Native.Nat.{ℕ, _+_, _*_, _≤_}
 use Rattle.packed.specs.declared.depth.Depth.{Depth}
-use Rattle.packed.specs.Lengths.{levelsOf, lineAfter, detailsTo, packedLength}
+use Rattle.packed.specs.Lengths.{levelsOf, lineAfter, detailsTo}
 use Rattle.packed.specs.Works.{Split, Down}
 use Rattle.packed.specs.Falls.{fallen}
 use Rattle.packed.specs.Tested.{all-the-way}
 use Rattle.packed.proofs.depth.packed_need.Statement.{statement}
 use Rattle.packed.proofs.depth.packed_need.Tie as tie
-use mathlib.Core.Path.{_≡_, sym, subst}
+use mathlib.Core.Path.{_≡_, subst}
 use native.Mathlib.Omega.{arith}
 
 -- over plain variables: what is found, and that it fits

@@ -2,12 +2,11 @@
 use borrow.Author.Needs.{needs}
 use Rattle.bank.specs.Lengths.{pairs}
 use Rattle.packed.specs.Tested.{deepest-part, level-part}
-use Rattle.packed.specs.Falls.{all-before}
 use Rattle.packed.proofs.depth.part_of.Statement.{statement}
 use Rattle.packed.proofs.depth.part_of.Tie as tie
 use mathlib.Core.Path.{_≡_, sym, ap, _∙_}
 use native.Mathlib.Omega.{arith}
-use Prim.Native.Nat.{ℕ, _≤_}
+use Prim.Native.Nat.{_≤_}
 use Rattle.packed.specs.Lengths.{levelStart, levelCount}
 
 most-requires : tie.Need-most-requires

@@ -1,18 +1,18 @@
 -- `packed::parts::level_details` meets its contract: where handing out is refused the part is empty, and else it is the level's, which lies in the buffer.
 use borrow.Author.Needs.{needs}
 use denote.Enum.Declared.{tagOf, declared}
-use lib.Dec.{ltb, lit<}
+use lib.Dec.{lit<}
 use Rattle.numbers.specs.Tests.{key-above, other}
 use Rattle.packed.proofs.parts.Handing.{enum}
 use Rattle.packed.specs.declared.parts.Handing.the-variants.{Done}
-use Rattle.packed.specs.Answers.{handingOf, HandedOut}
+use Rattle.packed.specs.Answers.{handingOf}
 use Rattle.packed.specs.Works.{Named}
-use Rattle.packed.specs.Lengths.{levelStart, levelCount, packedLength}
+use Rattle.packed.specs.Lengths.{packedLength}
 use Rattle.packed.specs.Follow.{inside}
 use Rattle.packed.specs.Tested.{handing-done, handed-none, handed-part}
 use Rattle.packed.proofs.parts.level_details.Statement.{statement}
 use Rattle.packed.proofs.parts.level_details.Tie as tie
-use Prim.Native.Nat.{ℕ, _+_, _-_, _≤_}
+use Prim.Native.Nat.{_+_, _-_, _≤_}
 use denote.Ref.{now}
 use lib.ListN.{length}
 use mathlib.Core.Path.{_≡_, _∙_, refl, sym}

@@ -9,7 +9,7 @@ use Rattle.numbers.specs.Words.{at}
 use Rattle.packed.specs.declared.Levels.the-variants.{Done}
 use Rattle.packed.specs.declared.parts.Reading.the-variants.{Value, NoSuchLevel, NoSuchPlace, Refused}
 use Rattle.packed.specs.Answers.{heldOf, Read}
-use Rattle.packed.specs.Lengths.{levelsOf, levelStart, levelCount, packedLength}
+use Rattle.packed.specs.Lengths.{levelsOf, levelStart, levelCount}
 use Rattle.packed.specs.Follow.{inside}
 use Rattle.packed.specs.Tested.{stopped, went-on, held-done}
 use Rattle.packed.proofs.parts.read_place.Statement.{statement}

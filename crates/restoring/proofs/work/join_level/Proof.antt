@@ -10,10 +10,8 @@ use Prim.Native.Nat.{ℕ, _%_, _≤_}
 use denote.Ref.{now}
 use lib.Dec.{eqb}
 use lib.Ieee.{Float, binary64}
-use lib.ListN.{length}
-use mathlib.Core.Bool.{cond}
 use mathlib.Core.List.{List}
-use mathlib.Core.Path.{_≡_, _∙_, refl, sym, ap}
+use mathlib.Core.Path.{_≡_, _∙_, sym, ap}
 use native.Mathlib.Omega.{arith}
 
 -- a turn asks no more of a line than that it has as many as the details

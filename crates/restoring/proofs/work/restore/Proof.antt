@@ -13,7 +13,7 @@ use lib.Ieee.{Float, binary64}
 use lib.ListN.{length, take, drop}
 use denote.Ref.{now}
 use mathlib.Core.List.{List}
-use mathlib.Core.Path.{_≡_, _∙_, refl, sym, ap}
+use mathlib.Core.Path.{_≡_, _∙_, refl, ap}
 use native.Mathlib.Omega.{arith}
 
 abbrev Inv-loop : tie.InvT-loop

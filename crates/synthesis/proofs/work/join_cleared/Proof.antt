@@ -4,8 +4,7 @@ use Rattle.synthesis.proofs.work.join_cleared.Statement.{statement}
 use Rattle.synthesis.proofs.work.join_cleared.Tie as tie
 use Rattle.synthesis.specs.Lines.{synthesised}
 use denote.Ref.{now}
-use lib.Ieee.{Float, binary64}
-use mathlib.Core.List.{List}
+use lib.Ieee.{binary64}
 use mathlib.Core.Path.{_∙_, ap}
 
 clear-requires : tie.Need-clear-requires
