@@ -2,12 +2,14 @@
  *
  * Every function answers for every input and always returns. It gives a number back: 0 is done, any other is a refusal:
  *
- *    1  fewer samples than taps (carries samples, taps)       7  nothing to work on
- *    2  a band's length is wrong (its length)                 8  the centre lies outside the kernel (its size, taps)
+ *    1  fewer samples than taps (carries samples, taps)       9  some level of several has fewer samples than taps
+ *    2  a band's length is wrong (its length)                10  the packed buffer's length is wrong (need, have)
  *    3  the bands' lengths differ (both)                     11  past a limit: 1,048,576 numbers, 64 kernel taps, a 32-bit centre
  *    4  the output's length is wrong (have, need)            12  tap lists odd, empty, over 64 or unequal
  *    5  the scratch is too short (need, have)                13  a Reflect101 pad over n - 2, with n above 1
- *    6  line and output differ in length (both)              26  no border has this number (the number)
+ *    6  line and output differ in length (both)              22  no such level (the level)
+ *    7  nothing to work on                                   23  no such place of the level (the place)
+ *    8  the centre lies outside the kernel (its size, taps)  26  no border has this number (the number)
  *
  * What an answer carries goes to carried[0] and carried[1]; words that carry nothing stay as they were. On a refusal nothing else that was lent changes.
  *
@@ -62,6 +64,43 @@ uint64_t isferghul_synthesise(const double *low, size_t lows, const double *high
    with the padded line and is as it was beyond it. Refuses by 26, 11, 6, 7, 5, 8, 13. */
 uint64_t isferghul_convolve(size_t border, const double *line, size_t samples, double *out, size_t outs, double *scratch, size_t scratches,
                             const double *kernel, size_t taps, int64_t centre, size_t carried[2]);
+
+/* Several levels. Each splits the approximations of the one before: (n + f - 1) / 2 details and as many approximations come of n samples by f taps.
+   The packed buffer holds details 1, details 2 and so on, then the last approximations. Levels 0 and 1 mean one level. */
+
+/* How long the packed buffer is: carried[0] on 0. Refuses by 12, 11, 1 for one level or 9 for more. */
+uint64_t isferghul_packed_length(size_t n, size_t f, size_t levels, size_t carried[2]);
+
+/* How much scratch analysis over levels needs: carried[0] on 0. Refuses by 12, 11, 1 or 9. */
+uint64_t isferghul_levels_scratch(size_t n, size_t f, size_t levels, size_t carried[2]);
+
+/* How long each of the two work buffers of restoring has to be at least, and how long the restored line is: carried[0] on 0. Refuses by 12, 11, 1 or 9. */
+uint64_t isferghul_restoring_length(size_t n, size_t f, size_t levels, size_t carried[2]);
+
+/* The most levels that n samples by f taps allow: carried[0] on 0. Refuses by 12, 11, 1. */
+uint64_t isferghul_most_levels(size_t n, size_t f, size_t carried[2]);
+
+/* Where a level's details stand in the packed buffer: on 0 they are packed + carried[0], carried[1] numbers. Level 0 names the last approximations.
+   Refuses by 12, 11, 1 or 9, 22. */
+uint64_t isferghul_level_part(size_t n, size_t f, size_t levels, size_t level, size_t carried[2]);
+
+/* A line over levels, into the packed buffer. The scratch then holds each level's padded line written over the one before, from its front, and is
+   as it was beyond the first. Refuses by 26, 12, 11, 1 or 9, 10, 5. */
+uint64_t isferghul_analyse_levels(size_t border, const double *low, size_t lows, const double *high, size_t highs,
+                                  const double *line, size_t samples, size_t levels, double *packed, size_t packeds,
+                                  double *scratch, size_t scratches, size_t carried[2]);
+
+/* The line back from the packed buffer of n samples, joined between two work buffers by turns, from the deepest level up. On 0 carried[0] says in
+   which buffer the line stands, from its front: 1, the first, for an odd number of levels, 2, the second, for an even one; and carried[1] how long
+   it is, n, or n + 1 for an odd n. Both buffers are as they were beyond that length. Refuses by 12, 11, 1 or 9, 10, 5 for the first, 5 for the second. */
+uint64_t isferghul_restore_levels(const double *low, size_t lows, const double *high, size_t highs,
+                                  const double *packed, size_t packeds, size_t n, size_t levels,
+                                  double *first, size_t firsts, double *second, size_t seconds, size_t carried[2]);
+
+/* One place of a level of the packed buffer, to value[0] on 0; on a refusal value[0] stays. Level 0 names the last approximations.
+   Refuses by 12, 11, 1 or 9, 10, 22, 23. */
+uint64_t isferghul_read_place(const double *packed, size_t packeds, size_t n, size_t f, size_t levels, size_t level, size_t place,
+                              double value[1], size_t carried[2]);
 
 #ifdef __cplusplus
 }

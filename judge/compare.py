@@ -8,12 +8,14 @@ has to be document 01's (rules.py) and a row of docs/DIFFERENCES.md has to admit
 import argparse
 import collections
 import os
+import random
 import shlex
 import subprocess
 import sys
 import time
 
-import cases as generator
+import kinds
+import level_cases
 import protocol
 import rows
 import rules
@@ -37,7 +39,7 @@ def fault_of_ours(case, ours):
     if ours.number != 0 and any(ours.reaches):
         return 'ours refused and changed a lent buffer'
     if ours.number == 0 and any(reach > may for reach, may in zip(ours.reaches, rules.may_reach(case))):
-        return 'ours changed the scratch beyond its need'
+        return 'ours changed the scratch or a work buffer beyond its need'
     return None
 
 
@@ -48,7 +50,7 @@ def judged(case, rust, ours):
         return None, fault
     same_buffers = rust.buffers == ours.buffers
     if (rust.number, rust.carried) == (ours.number, ours.carried) and same_buffers:
-        return (8 if rows.row_8(case, rust) else None), None
+        return rows.beside(case, rust), None
     if rust.number == ours.number == 0 and not same_buffers:
         return None, 'both are done and their numbers differ'
     row = rows.admitting(case, rust)
@@ -130,9 +132,9 @@ class Tally:
         for number in sorted(self.numbers):
             print('answer %d: %d cases' % (number, self.numbers[number]))
         for row, test in rows.ROWS.items():
-            print('row %d of docs/DIFFERENCES.md: %d cases. %s' % (row, self.rows[row], test.__doc__))
+            print('row %s of docs/DIFFERENCES.md: %d cases. %s' % (row, self.rows[row], test.__doc__))
         for row, why in rows.OUTSIDE.items():
-            print('row %d of docs/DIFFERENCES.md: by %s' % (row, why))
+            print('row %s of docs/DIFFERENCES.md: by %s' % (row, why))
 
     def show_smallest(self):
         case, rust, ours, fault = self.smallest
@@ -146,12 +148,26 @@ class Tally:
         return [row for row in rows.ROWS if self.rows[row] == 0]
 
 
+def run_batch(sides, tally, name, batch):
+    """Judges each case of the batch; gives the Rust's results."""
+    rust, ours = sides.run(batch)
+    rust = list(protocol.results(batch, rust))
+    for case, r, o in zip(batch, rust, protocol.results(batch, ours), strict=True):
+        tally.take(name, case, r, o)
+    return rust
+
+
+def back_again(rng, batch, rust):
+    """The way back from what the Rust gave, which is what ours gave where nothing differs."""
+    return [level_cases.back(rng, case, result.buffers[0]) for case, result in zip(batch, rust, strict=True)]
+
+
 def run_kind(sides, tally, name, count, cases):
-    done, started = 0, time.monotonic()
+    done, started, rng = 0, time.monotonic(), random.Random(name)
     for batch in batches(cases):
-        rust, ours = sides.run(batch)
-        for case, r, o in zip(batch, protocol.results(batch, rust), protocol.results(batch, ours), strict=True):
-            tally.take(name, case, r, o)
+        rust = run_batch(sides, tally, name, batch)
+        if name == kinds.ROUNDS:
+            run_batch(sides, tally, name + '-back', back_again(rng, batch, rust))
         done += len(batch)
         print('%s: %d of %d, %.1f s' % (name, done, count, time.monotonic() - started), flush=True)
 
@@ -172,14 +188,14 @@ def main():
     if parted:
         sys.exit('\n'.join(parted))
     sides, tally = Sides(told.work, told.driver, told.host), Tally()
-    for name, count, cases in generator.kinds(told.seed, told.cases):
+    for name, count, cases in kinds.kinds(told.seed, told.cases):
         run_kind(sides, tally, name, count, cases)
     tally.show()
     if tally.differ:
         tally.show_smallest()
     print('%d cases, %d differ' % (tally.cases(), tally.differ))
     for row in tally.never_met():
-        print('row %d was never met' % row)
+        print('row %s was never met' % row)
     return 1 if tally.differ or tally.never_met() else 0
 
 

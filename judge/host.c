@@ -10,6 +10,8 @@
 #define ONE_NAN UINT64_C(0x7FF8000000000000)
 #define GUARDS 8
 #define LISTS 6
+#define SCALARS 5
+#define OPERATIONS 16
 
 /* Words that grow. */
 struct words {
@@ -25,8 +27,9 @@ struct list {
 };
 
 /* By operation: how many scalars, how many lists, which of them are lent (a bit each). */
-static const struct { int scalars, lists, lent; } shapes[9] = {
+static const struct { int scalars, lists, lent; } shapes[OPERATIONS + 1] = {
     {0, 0, 0}, {1, 6, 0x38}, {0, 5, 0x10}, {2, 4, 0x06}, {2, 0, 0}, {2, 0, 0}, {2, 0, 0}, {3, 0, 0}, {0, 2, 0x02},
+    {3, 0, 0}, {3, 0, 0}, {3, 0, 0}, {2, 0, 0}, {4, 0, 0}, {2, 5, 0x18}, {2, 5, 0x18}, {5, 2, 0x02},
 };
 
 static void stop(const char *why) {
@@ -96,6 +99,23 @@ static int guards_changed(const struct list *list, int lists) {
     return 0;
 }
 
+static uint64_t call_levels(uint64_t op, const uint64_t *s, const struct list *l, size_t carried[2]) {
+    switch (op) {
+    case 9: return isferghul_packed_length(s[0], s[1], s[2], carried);
+    case 10: return isferghul_levels_scratch(s[0], s[1], s[2], carried);
+    case 11: return isferghul_restoring_length(s[0], s[1], s[2], carried);
+    case 12: return isferghul_most_levels(s[0], s[1], carried);
+    case 13: return isferghul_level_part(s[0], s[1], s[2], s[3], carried);
+    case 14: return isferghul_analyse_levels(s[0], l[0].seen, l[0].count, l[1].seen, l[1].count, l[2].seen, l[2].count, s[1],
+                                             l[3].seen, l[3].count, l[4].seen, l[4].count, carried);
+    case 15: return isferghul_restore_levels(l[0].seen, l[0].count, l[1].seen, l[1].count, l[2].seen, l[2].count, s[0], s[1],
+                                             l[3].seen, l[3].count, l[4].seen, l[4].count, carried);
+    default:
+        if (l[1].count != 1) stop("a place is read to one number");
+        return isferghul_read_place(l[0].seen, l[0].count, s[0], s[1], s[2], s[3], s[4], l[1].seen, carried);
+    }
+}
+
 static uint64_t call(uint64_t op, const uint64_t *s, const struct list *l, size_t carried[2]) {
     switch (op) {
     case 1: return isferghul_analyse(s[0], l[0].seen, l[0].count, l[1].seen, l[1].count, l[2].seen, l[2].count,
@@ -108,7 +128,8 @@ static uint64_t call(uint64_t op, const uint64_t *s, const struct list *l, size_
     case 5: return isferghul_line_length(s[0], s[1], carried);
     case 6: return isferghul_analysis_scratch(s[0], s[1], carried);
     case 7: return isferghul_convolution_scratch(s[0], s[1], (int64_t)s[2], carried);
-    default: return isferghul_mirror(l[0].seen, l[0].count, l[1].seen, l[1].count);
+    case 8: return isferghul_mirror(l[0].seen, l[0].count, l[1].seen, l[1].count);
+    default: return call_levels(op, s, l, carried);
     }
 }
 
@@ -130,10 +151,10 @@ static void put_lent(struct words *out, const struct list *l) {
 
 /* Runs the case at *at; its result goes behind what out holds. */
 static void run(const struct words *in, size_t *at, struct words *arena, struct words *out) {
-    uint64_t scalars[3] = {0, 0, 0};
+    uint64_t scalars[SCALARS] = {0};
     struct list list[LISTS];
     uint64_t op = next(in, at);
-    if (op < 1 || op > 8) stop("no such operation");
+    if (op < 1 || op > OPERATIONS) stop("no such operation");
     int lists = shapes[op].lists, lent = shapes[op].lent;
     for (int i = 0; i < shapes[op].scalars; i++) scalars[i] = next(in, at);
     for (int i = 0; i < lists; i++) {

@@ -9,7 +9,7 @@ import sys
 
 from compare import Sides
 from floats import bits
-from protocol import ANALYSE, Case, CONVOLVE, in_hex, results, SYNTHESISE, words_of
+from protocol import ANALYSE, ANALYSE_LEVELS, Case, CONVOLVE, in_hex, RESTORE_LEVELS, results, SYNTHESISE, words_of
 
 X = 1 + 2.0**-30
 TWICE, ONCE = 0x3E20000000000000, 0x3E20000000200000
@@ -19,13 +19,17 @@ def listed(*numbers):
     return array.array('Q', [bits(float(x)) for x in numbers])
 
 
-# the case, which of its lent buffers tells, and how many of that one's first numbers do
+# the case, which of its lent buffers tells, and from where to where
 PROBES = (
-    ('analysis, approximation', Case(ANALYSE, (0,), [listed(1, X), listed(0, 0), listed(-1, X), listed(7), listed(7), listed(7, 7)]), 0, 1),
-    ('analysis, detail', Case(ANALYSE, (0,), [listed(0, 0), listed(1, X), listed(-1, X), listed(7), listed(7), listed(7, 7)]), 1, 1),
-    ('synthesis, detail then approximation', Case(SYNTHESISE, (), [listed(0, X), listed(X, 0), listed(X, X), listed(X, X), listed(*[-1] * 4)]), 0, 4),
-    ('convolution, one at a time', Case(CONVOLVE, (0, 0), [listed(-1, X), listed(7, 7), listed(7, 7, 7, 7), listed(1, X)]), 0, 1),
-    ('convolution, four at a time', Case(CONVOLVE, (0, 0), [listed(-1, X, X, X), listed(7, 7, 7, 7), listed(*[7] * 6), listed(1, X)]), 0, 1),
+    ('analysis, approximation', Case(ANALYSE, (0,), [listed(1, X), listed(0, 0), listed(-1, X), listed(7), listed(7), listed(7, 7)]), 0, 0, 1),
+    ('analysis, detail', Case(ANALYSE, (0,), [listed(0, 0), listed(1, X), listed(-1, X), listed(7), listed(7), listed(7, 7)]), 1, 0, 1),
+    ('synthesis, detail then approximation', Case(SYNTHESISE, (), [listed(0, X), listed(X, 0), listed(X, X), listed(X, X), listed(*[-1] * 4)]), 0, 0, 4),
+    ('convolution, one at a time', Case(CONVOLVE, (0, 0), [listed(-1, X), listed(7, 7), listed(7, 7, 7, 7), listed(1, X)]), 0, 0, 1),
+    ('convolution, four at a time', Case(CONVOLVE, (0, 0), [listed(-1, X, X, X), listed(7, 7, 7, 7), listed(*[7] * 6), listed(1, X)]), 0, 0, 1),
+    ('analysis over 2 levels, the second',
+     Case(ANALYSE_LEVELS, (0, 2), [listed(1, X), listed(1, X), listed(-1, 0, X, 0), listed(*[7] * 4), listed(*[7] * 8)]), 0, 2, 4),
+    ('restoring of 2 levels, the last join',
+     Case(RESTORE_LEVELS, (4, 2), [listed(X, X), listed(-1, -1), listed(1, 1, 0, 1), listed(*[7] * 4), listed(*[7] * 4)]), 1, 0, 4),
 )
 
 
@@ -34,11 +38,11 @@ def main():
     for name in ('work', 'driver', 'host'):
         parser.add_argument('--' + name, required=True)
     told = parser.parse_args()
-    cases = [case for _, case, _, _ in PROBES]
+    cases = [case for _, case, _, _, _ in PROBES]
     bad = 0
     for side, data in zip(('the Rust', 'ours'), Sides(told.work, told.driver, told.host).run(cases), strict=True):
-        for (name, _, buffer, count), result in zip(PROBES, results(cases, data), strict=True):
-            words = words_of(result.buffers[buffer])[:count]
+        for (name, _, buffer, start, end), result in zip(PROBES, results(cases, data), strict=True):
+            words = words_of(result.buffers[buffer])[start:end]
             good = result.number == 0 and set(words) == {TWICE}
             bad += not good
             fused = ', fused' if ONCE in words else ''

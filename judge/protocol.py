@@ -2,8 +2,8 @@
 
 A case is its operation, its scalars, then each list as its count and its words (a float as its bits, a signed number in two's complement).
 A result is the number, two carried words, a word of flags, then for each lent buffer its reach (the places from the front up to the last one
-whose bits changed) and its words, every NaN as one. What carries nothing is PATTERN. The flags, 0 in the Rust's results: bit 0 a word
-outside the lists changed, bit 1 a list that is only read changed."""
+whose bits changed) and its words, every NaN as one. What carries nothing is PATTERN. The flags of ours: bit 0 a word outside the lists
+changed, bit 1 a list that is only read changed. In the Rust's results that word is how many inner approximations it kept."""
 import array
 import collections
 import struct
@@ -11,7 +11,8 @@ import sys
 
 PATTERN = 0xCCCCCCCCCCCCCCCC
 ONE_NAN = 0x7FF8000000000000
-PANICKED, NO_COUNTERPART, NO_NUMBER = 1000, 1001, 1002
+# the driver's own numbers; not run is what would end the driver
+PANICKED, NO_COUNTERPART, NO_NUMBER, NOT_RUN = 1000, 1001, 1002, 1003
 BORDERS = ('Clamp', 'Wrap', 'Reflect', 'Zeros', 'Reflect101')
 
 Shape = collections.namedtuple('Shape', 'name scalars lists lent')
@@ -24,8 +25,17 @@ SHAPES = {
     6: Shape('analysis_scratch', ('n', 'f'), (), ()),
     7: Shape('convolution_scratch', ('n', 'f', 'centre'), (), ()),
     8: Shape('mirror', (), ('low', 'high'), (1,)),
+    9: Shape('packed_length', ('n', 'f', 'levels'), (), ()),
+    10: Shape('levels_scratch', ('n', 'f', 'levels'), (), ()),
+    11: Shape('restoring_length', ('n', 'f', 'levels'), (), ()),
+    12: Shape('most_levels', ('n', 'f'), (), ()),
+    13: Shape('level_part', ('n', 'f', 'levels', 'level'), (), ()),
+    14: Shape('analyse_levels', ('border', 'levels'), ('low', 'high', 'line', 'packed', 'scratch'), (3, 4)),
+    15: Shape('restore_levels', ('n', 'levels'), ('low', 'high', 'packed', 'first', 'second'), (3, 4)),
+    16: Shape('read_place', ('n', 'f', 'levels', 'level', 'place'), ('packed', 'value'), (1,)),
 }
 ANALYSE, SYNTHESISE, CONVOLVE, BAND_LENGTH, LINE_LENGTH, ANALYSIS_SCRATCH, CONVOLUTION_SCRATCH, MIRROR = range(1, 9)
+PACKED_LENGTH, LEVELS_SCRATCH, RESTORING_LENGTH, MOST_LEVELS, LEVEL_PART, ANALYSE_LEVELS, RESTORE_LEVELS, READ_PLACE = range(9, 17)
 
 if sys.byteorder != 'little' or array.array('Q').itemsize != 8:
     sys.exit('protocol.py: this machine is not little-endian with words of 64 bits')
@@ -121,6 +131,8 @@ def readable_result(who, case, result):
     lines = ['%s: number %d, carries %s' % (who, result.number, list(result.answer()[1:]))]
     for i, reach, data in zip(case.shape().lent, result.reaches, result.buffers):
         lines.append(readable_list(case.shape().lists[i], words_of(data)) + ' (changed up to %d)' % reach)
+    if who == 'the Rust':
+        return lines + (['  it kept %d inner approximations' % result.flags] if result.flags else [])
     if result.flags & 1:
         lines.append('  a word outside the lists changed')
     if result.flags & 2:

@@ -1,7 +1,8 @@
-"""Document 01's tests, from its text: which number answers a case and what it carries, and how much scratch a done call may write.
+"""Document 01's tests, from its text: which number answers a case and what it carries, and how far a done call may write its buffers.
 
 An answer is a tuple, the number first. NO_BORDER is the C interface's own, tested before everything else."""
-from protocol import ANALYSE, ANALYSIS_SCRATCH, BAND_LENGTH, BORDERS, CONVOLVE, CONVOLUTION_SCRATCH, LINE_LENGTH, MIRROR, SYNTHESISE
+from protocol import (ANALYSE, ANALYSE_LEVELS, ANALYSIS_SCRATCH, BAND_LENGTH, BORDERS, CONVOLVE, CONVOLUTION_SCRATCH, LEVEL_PART, LEVELS_SCRATCH,
+                      LINE_LENGTH, MIRROR, MOST_LEVELS, PACKED_LENGTH, READ_PLACE, RESTORE_LEVELS, RESTORING_LENGTH, SYNTHESISE)
 
 LIMIT = 1048576
 MOST_TAPS = 64
@@ -122,6 +123,119 @@ def mirror(f, highs):
     return (12,) if bad_taps(f) or f != highs else (0,)
 
 
+# --- levels: a level's line is the approximations of the one before
+
+def bands(n, f, levels):
+    """Each level's band length, the first level's first; None where a level's line is shorter than f. Levels 0 and 1 mean one."""
+    lengths = []
+    for _ in range(max(1, levels)):
+        if n < f:
+            return None
+        n = band(n, f)
+        lengths.append(n)
+    return lengths
+
+
+def packed(n, f, levels):
+    """Details 1, details 2 and so on, then the last approximations."""
+    lengths = bands(n, f, levels)
+    return sum(lengths) + lengths[-1]
+
+
+def first_scratch(n, f):
+    """The padded length of the first line plus 2m of the first level."""
+    return padded_length(n, f) + 2 * band(n, f)
+
+
+def first_joined(n, f):
+    """The first level's synthesis length."""
+    return joined_length(band(n, f), f)
+
+
+def part(n, f, levels, level):
+    """Where a level's part begins in the packed buffer and how many numbers it has; level 0 names the last approximations."""
+    lengths = bands(n, f, levels)
+    return (sum(lengths), lengths[-1]) if level == 0 else (sum(lengths[:level - 1]), lengths[level - 1])
+
+
+def levels_asked(n, f, levels):
+    """12, 11, then 1 for one level or 9 for more."""
+    if bad_taps(f):
+        return 12,
+    if n > LIMIT:
+        return 11,
+    if bands(n, f, levels) is None:
+        return (9,) if levels > 1 else (1, n, f)
+    return 0,
+
+
+def levels_held(n, f, levels, packeds):
+    """The same, then 10."""
+    asked = levels_asked(n, f, levels)
+    if asked != (0,):
+        return asked
+    need = packed(n, f, levels)
+    return (10, need, packeds) if packeds != need else (0,)
+
+
+def level_named(asked, levels, level):
+    """What was asked, then 22."""
+    if asked != (0,):
+        return asked
+    return (22, level) if level > max(1, levels) else (0,)
+
+
+def level_length(n, f, levels, length):
+    asked = levels_asked(n, f, levels)
+    return (0, length(n, f)) if asked == (0,) else asked
+
+
+def packed_length(n, f, levels):
+    return level_length(n, f, levels, lambda n, f: packed(n, f, levels))
+
+
+def most_levels(n, f):
+    def most(n, f):
+        return 0 if n < f else 1 + most(band(n, f), f)
+    return level_length(n, f, 1, most)
+
+
+def level_part(n, f, levels, level):
+    named = level_named(levels_asked(n, f, levels), levels, level)
+    return (0, *part(n, f, levels, level)) if named == (0,) else named
+
+
+def analyse_levels(border, levels, f, highs, n, packeds, scratches):
+    if border >= len(BORDERS):
+        return NO_BORDER, border
+    if f != highs:
+        return 12,
+    held = levels_held(n, f, levels, packeds)
+    if held != (0,):
+        return held
+    return (5, first_scratch(n, f), scratches) if scratches < first_scratch(n, f) else (0,)
+
+
+def restore_levels(n, levels, f, highs, packeds, firsts, seconds):
+    if f != highs:
+        return 12,
+    held = levels_held(n, f, levels, packeds)
+    if held != (0,):
+        return held
+    for have in (firsts, seconds):
+        if have < first_joined(n, f):
+            return 5, first_joined(n, f), have
+    # the deepest level is joined into the first buffer
+    return 0, 1 if max(1, levels) % 2 else 2, first_joined(n, f)
+
+
+def read_place(n, f, levels, level, place, packeds, _):
+    named = level_named(levels_held(n, f, levels, packeds), levels, level)
+    if named != (0,):
+        return named
+    return (23, place) if place >= part(n, f, levels, level)[1] else (0,)
+
+
 TESTS = {
     ANALYSE: analyse,
     SYNTHESISE: synthesise,
@@ -131,6 +245,14 @@ TESTS = {
     ANALYSIS_SCRATCH: lambda n, f: length_told(n, f, padded_length),
     CONVOLUTION_SCRATCH: convolution_scratch,
     MIRROR: mirror,
+    PACKED_LENGTH: packed_length,
+    LEVELS_SCRATCH: lambda n, f, levels: level_length(n, f, levels, first_scratch),
+    RESTORING_LENGTH: lambda n, f, levels: level_length(n, f, levels, first_joined),
+    MOST_LEVELS: most_levels,
+    LEVEL_PART: level_part,
+    ANALYSE_LEVELS: analyse_levels,
+    RESTORE_LEVELS: restore_levels,
+    READ_PLACE: read_place,
 }
 
 
@@ -147,4 +269,8 @@ def may_reach(case):
     if case.op == CONVOLVE:
         n, f = case.counts[0], case.counts[3]
         reaches[-1] = n + sum(pads(f, case.scalars[1])) if f else 0
+    if case.op == ANALYSE_LEVELS:
+        reaches[-1] = first_scratch(case.counts[2], case.counts[0])
+    if case.op == RESTORE_LEVELS:
+        reaches = [first_joined(case.scalars[0], case.counts[0])] * 2
     return reaches

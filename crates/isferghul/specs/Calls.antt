@@ -3,7 +3,6 @@ use mathlib.Core.Path.{_≡_, refl, sym, ap, _∙_, subst}
 use mathlib.Core.Bool.{true, false}
 use mathlib.Core.List.{List, [], _∷_}
 use Prim.Native.Nat.{ℕ}
-use native.Mathlib.Omega.{arith}
 use lib.IntN.{ℤ}
 use lib.ListN.{length}
 use lib.Ieee.{Float, binary64}
@@ -28,7 +27,7 @@ use Rattle.isferghul.specs.Told.{Told}
 use Rattle.isferghul.specs.Borders.{borderOf, noBorder}
 use Rattle.isferghul.specs.Lines.{tapsOf, AnalysisTold, SynthesisTold, ConvolutionTold}
 use Rattle.isferghul.specs.Telling.{told-as, under, hidden, positive, left-alone, renamed}
-use Rattle.isferghul.specs.Pairs.{Paired, paired, copied}
+use Rattle.isferghul.specs.Pairs.{Paired, listed, copied}
 
 -- ---- analysis
 module _ (border : ℕ) (low high line approx detail scratch : List Float) {words words′ : List ℕ} {a : Analysis} {f number : ℕ}
@@ -44,7 +43,7 @@ module _ (border : ℕ) (low high line approx detail scratch : List Float) {word
   analysis-ready z = analysing _ _ _ _ _ (sym tested ∙ done-analysis a (sym (t .given) ∙ z))
 
   pub analysis-lists : number ≡ 0 → Paired (length low) (length high)
-  analysis-lists z = let two = analysis-ready z .ready .taps .two in paired _ _ (λ q. absurd (omega (arith, taps)))
+  analysis-lists z = listed _ _ taps (analysis-ready z .ready .taps .two)
 
   pub analysis-refused : noBorder border ≡ false → (number ≡ 0 → ⊥) → AnalysisTold border low high line approx detail scratch words number approx detail scratch words′
   analysis-refused e n = record {
@@ -61,13 +60,10 @@ module _ (border : ℕ) (low high line approx detail scratch : List Float) {word
   analysis-done {b} {l} {h} zeros e z named el eh ea ed es =
       let p = analysis-lists z in
       let F = length low in
-      record {
-        told = under border e (renamed (sym z) by-lists);
-        approxes = ea ∙ ap (λ (k : ℕ). band binary64 l k b line) (taps ∙ p .count) ∙ band-same binary64 l low F b line (copied low F zeros el refl) ∙ ap (λ (k : Border). band binary64 low F k line) named;
-        details = ed ∙ ap (λ (k : ℕ). band binary64 h k b line) (taps ∙ p .count)
-            ∙ band-same binary64 h high F b line (copied high F zeros eh (p .both)) ∙ ap (λ (k : Border). band binary64 high F k line) named;
-        scratched = es ∙ ap (λ (k : ℕ). paddedInto k b line scratch) (taps ∙ p .count) ∙ ap (λ (k : Border). paddedInto F k line scratch) named;
-      }
+      let count = taps ∙ p .count in
+      let lows = band-same binary64 l low F b line (copied low F zeros el refl) in
+      let highs = band-same binary64 h high F b line (copied high F zeros eh (p .both)) in
+      record { told = under border e (renamed (sym z) by-lists); approxes = (cc); details = (cc); scratched = (cc) }
 
 pub analysis-hidden : (border : ℕ) (low high line approx detail scratch : List Float) {words words′ : List ℕ} {r : ℕ}
     → noBorder border ≡ true → Told 26 (border ∷ []) words r words′ → AnalysisTold border low high line approx detail scratch words r approx detail scratch words′
@@ -91,7 +87,7 @@ module _ (low high approx detail out : List Float) {words words′ : List ℕ} {
   synthesis-ready z = joinable _ _ _ _ (sym tested ∙ done-synthesis a (sym (t .given) ∙ z))
 
   pub synthesis-lists : number ≡ 0 → Paired (length low) (length high)
-  synthesis-lists z = let two = synthesis-ready z .two in paired _ _ (λ q. absurd (omega (arith, taps)))
+  synthesis-lists z = listed _ _ taps (synthesis-ready z .two)
 
   pub synthesis-refused : (number ≡ 0 → ⊥) → SynthesisTold low high approx detail out words number out words′
   synthesis-refused n = record { told = of-lists; joined = kept number (positive number n) _ out }
@@ -102,11 +98,9 @@ module _ (low high approx detail out : List Float) {words words′ : List ℕ} {
   synthesis-done {l} {h} zeros z el eh eo =
       let p = synthesis-lists z in
       let F = length low in
-      record {
-        told = renamed (sym z) of-lists;
-        joined = eo ∙ ap (λ (k : ℕ). synthesised binary64 k l h approx detail out) (taps ∙ p .count)
-            ∙ synthesised-same binary64 F l low h high approx detail out (copied low F zeros el refl) (copied high F zeros eh (p .both));
-      }
+      let count = taps ∙ p .count in
+      let lists = synthesised-same binary64 F l low h high approx detail out (copied low F zeros el refl) (copied high F zeros eh (p .both)) in
+      record { told = renamed (sym z) of-lists; joined = (cc) }
 
 -- ---- convolution
 pub convolution-told : {border : ℕ} {line out scratch kernel : List Float} {c c′ : ℤ} {words words′ : List ℕ} {r : ℕ} {b : Border} {a : Convolution} {out′ scratch′ : List Float}

@@ -2,7 +2,7 @@
 use mathlib.Core.Path.{_≡_, refl, sym, ap, _∙_}
 use mathlib.Core.Bool.{Bool, true, false, cond, not, _||_}
 use mathlib.Core.List.{List}
-use Prim.Native.Nat.{ℕ, _<_}
+use Prim.Native.Nat.{ℕ, _≤_, _<_}
 use native.Mathlib.Omega.{arith}
 use borrow.Author.Tests.{eqb-true, not-false}
 use lib.Dec.{eqb}
@@ -42,6 +42,10 @@ module _ (low high : ℕ) where
       go false e =
           let p = neither (badTaps low) (not (eqb high low)) e in
           record { count = counted e; both = eqb-true high low (not-false _ (p .1)); good = good-taps low (p .0); number = numbered e }
+
+  -- by another name of how many they have
+  pub listed : {f : ℕ} → f ≡ tapsOf low high → 2 ≤ f → Paired low high
+  listed taps two = paired (λ z. absurd (omega (arith, taps)))
 
   pub unpaired : tapsOf low high ≡ 0 → 12 ≡ Banks.numberOf (Banks.answerOf low high)
   unpaired z = go unfit refl

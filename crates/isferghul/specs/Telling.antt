@@ -6,16 +6,28 @@ use Prim.Native.Nat.{ℕ, _<_}
 use native.Mathlib.Omega.{arith}
 use borrow.Author.Tests.{ne-eqb}
 use lib.Dec.{lit<}
+use lib.Ieee.{Float}
 use Rattle.numbers.specs.Words.{whenDone}
 use Rattle.numbers.specs.Tests.{cond-true, cond-false, kept}
 use Rattle.border.specs.declared.Border.the-variants.{Reflect101}
+use Rattle.packed.specs.declared.parts.Reading.{Reading}
 use Rattle.isferghul.specs.Told.{Told, carriedFrom}
 use Rattle.isferghul.specs.Borders.{borderOf, noBorder, numberUnder, valuesUnder}
+use Rattle.isferghul.specs.Levels.{ReadingTold}
 
--- what is told of an answer is told of any name that it has
+-- what is told holds by any names of the number and of the values
+pub retold : {number number′ : ℕ} {values values′ words words′ : List ℕ} {r : ℕ} → number ≡ number′ → values ≡ values′
+    → Told number values words r words′ → Told number′ values′ words r words′
+retold {words = words} e q t = record { given = t .given ∙ e; carried = t .carried ∙ ap (λ (v : List ℕ). carriedFrom 0 v words) q }
+
+-- and of the answer
 pub told-as : {A : Type 0} (number : A → ℕ) (values : A → List ℕ) {a b : A} {words words′ : List ℕ} {r : ℕ}
     → a ≡ b → Told (number b) (values b) words r words′ → Told (number a) (values a) words r words′
-told-as number values e t = rw e t
+told-as number values e t = retold (ap number (sym e)) (ap values (sym e)) t
+
+pub reading-as : {a b : Reading} {value value′ : List Float} {words words′ : List ℕ} {r : ℕ}
+    → a ≡ b → ReadingTold b value words r value′ words′ → ReadingTold a value words r value′ words′
+reading-as e t = rw e t
 
 -- a number above 3 names the last border
 pub border-rest : (k : ℕ) → (k ≡ 0 → ⊥) → (k ≡ 1 → ⊥) → (k ≡ 2 → ⊥) → (k ≡ 3 → ⊥) → Reflect101 ≡ borderOf k
@@ -25,17 +37,11 @@ border-rest k n0 n1 n2 n3 = simp (ne-eqb k 0 n0, ne-eqb k 1 n1, ne-eqb k 2 n2, n
 -- a border's number does not hide an answer, or does
 pub under : (border : ℕ) {number : ℕ} {values words words′ : List ℕ} {r : ℕ} → noBorder border ≡ false → Told number values words r words′
     → Told (numberUnder border number) (valuesUnder border values) words r words′
-under border {number} {values} {words} e t = record {
-  given = t .given ∙ sym (cond-false (noBorder border) 26 number e);
-  carried = t .carried ∙ ap (λ (v : List ℕ). carriedFrom 0 v words) (sym (cond-false (noBorder border) (border ∷ []) values e));
-}
+under border {number} {values} e t = retold (sym (cond-false (noBorder border) 26 number e)) (sym (cond-false (noBorder border) (border ∷ []) values e)) t
 
 pub hidden : (border : ℕ) (number : ℕ) (values : List ℕ) {words words′ : List ℕ} {r : ℕ} → noBorder border ≡ true → Told 26 (border ∷ []) words r words′
     → Told (numberUnder border number) (valuesUnder border values) words r words′
-hidden border number values {words} e t = record {
-  given = t .given ∙ sym (cond-true (noBorder border) 26 number e);
-  carried = t .carried ∙ ap (λ (v : List ℕ). carriedFrom 0 v words) (sym (cond-true (noBorder border) (border ∷ []) values e));
-}
+hidden border number values e t = retold (sym (cond-true (noBorder border) 26 number e)) (sym (cond-true (noBorder border) (border ∷ []) values e)) t
 
 -- what is not 0 is above it
 pub positive : (k : ℕ) → (k ≡ 0 → ⊥) → 0 < k

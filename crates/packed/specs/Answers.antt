@@ -113,10 +113,14 @@ pub record MostSized (n f : ℕ) (r : LevelSize) : Type 0 where
   pub answer : r ≡ sizeOf n f 1 (mostLevels n f)
 
 -- a part, after 12, 11, 1 or 9, and 22
+abbrev pub partOf : ℕ → ℕ → ℕ → ℕ → LevelPart
+partOf n f levels level =
+    whenDone (numberOf (askedOf n f levels))
+    (cond (ltb (levelsOf levels) level) (part.NoSuchLevel level) (part.Part (levelStart n f levels level) (levelCount n f levels level)))
+    (part.Refused (askedOf n f levels))
+
 pub record PartSized (n f levels level : ℕ) (r : LevelPart) : Type 0 where
-  pub answer : r ≡ whenDone (numberOf (askedOf n f levels))
-      (cond (ltb (levelsOf levels) level) (part.NoSuchLevel level) (part.Part (levelStart n f levels level) (levelCount n f levels level)))
-      (part.Refused (askedOf n f levels))
+  pub answer : r ≡ partOf n f levels level
 
 -- handing out a level of a packed buffer of p: as levels up to 10, then 22
 unfoldable pub handingOf : ℕ → ℕ → ℕ → ℕ → ℕ → Handing
@@ -134,9 +138,13 @@ pub record HandedOut (n f levels level : ℕ) (packed part : List Float) : Type 
   pub handed : part ≡ whenDone (handingNumber (handingOf n f levels (length packed) level)) (partAt n f levels packed level) []
 
 -- reading a place of a level: as levels up to 10, then 22, then 23
+abbrev pub readingOf : ℕ → ℕ → ℕ → ℕ → ℕ → List Float → Reading
+readingOf n f levels level place packed =
+    whenDone (numberOf (heldOf n f levels (length packed)))
+    (cond (ltb (levelsOf levels) level) (reading.NoSuchLevel level)
+    (cond (leb (levelCount n f levels level) place) (reading.NoSuchPlace place)
+    (reading.Value (at packed (levelStart n f levels level + place)))))
+    (reading.Refused (heldOf n f levels (length packed)))
+
 pub record Read (n f levels level place : ℕ) (packed : List Float) (r : Reading) : Type 0 where
-  pub answer : r ≡ whenDone (numberOf (heldOf n f levels (length packed)))
-      (cond (ltb (levelsOf levels) level) (reading.NoSuchLevel level)
-      (cond (leb (levelCount n f levels level) place) (reading.NoSuchPlace place)
-      (reading.Value (at packed (levelStart n f levels level + place)))))
-      (reading.Refused (heldOf n f levels (length packed)))
+  pub answer : r ≡ readingOf n f levels level place packed

@@ -40,7 +40,7 @@ fn nan_bits(w: u64) -> bool
 }
 
 // The float of these bits; every NaN is one.
-fn float(w: u64) -> f64 {
+pub fn float(w: u64) -> f64 {
     if nan_bits(w) {
         return 0.0 / 0.0;
     }
@@ -62,7 +62,7 @@ pub fn floats(words: &[u64], from: usize, n: usize) -> [f64; 160]
 }
 
 // Whether a float has these bits; every NaN is one.
-fn alike(x: f64, w: u64) -> bool {
+pub fn alike(x: f64, w: u64) -> bool {
     if x != x {
         return nan_bits(w);
     }

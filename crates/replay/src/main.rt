@@ -1,6 +1,7 @@
 // Replays the Rust's answers: each line of the list is a call with what the Rust answered and what every lent buffer then held.
 mod lines;
 mod lists;
+mod packing;
 mod sizes;
 mod text;
 
@@ -15,6 +16,14 @@ fn agrees(words: &[u64]) -> bool {
         6 => sizes::of_bank(words),
         7 => sizes::convolution_scratch(words),
         8 => sizes::mirror(words),
+        9 => sizes::of_levels(words),
+        10 => sizes::of_levels(words),
+        11 => sizes::of_levels(words),
+        12 => sizes::most_levels(words),
+        13 => sizes::level_part(words),
+        14 => packing::analysis(words),
+        15 => packing::restoring(words),
+        16 => packing::reading(words),
         _ => false,
     }
 }

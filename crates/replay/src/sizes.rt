@@ -1,4 +1,4 @@
-// Calls that answer a length, and the mirror rule.
+// Calls that answer a length or a part, and the mirror rule.
 use crate::lists::answer_length;
 use crate::lists::blank;
 use crate::lists::count;
@@ -7,6 +7,7 @@ use crate::lists::same;
 use crate::lists::signed;
 use crate::lists::told;
 use crate::lists::word;
+use isferghul::depths;
 use isferghul::sizes;
 use isferghul::taps;
 
@@ -30,6 +31,38 @@ pub fn convolution_scratch(words: &[u64]) -> bool {
     let mut carried = blank();
     let number = sizes::isferghul_convolution_scratch(n, f, centre, &mut carried);
     told(words, 4, number, &carried)
+}
+
+// The three lengths over levels.
+pub fn of_levels(words: &[u64]) -> bool {
+    let n = word(words, 1, 0) as usize;
+    let f = word(words, 2, 0) as usize;
+    let levels = word(words, 3, 0) as usize;
+    let mut carried = blank();
+    let number = match word(words, 0, 0) {
+        9 => depths::isferghul_packed_length(n, f, levels, &mut carried),
+        10 => depths::isferghul_levels_scratch(n, f, levels, &mut carried),
+        _ => depths::isferghul_restoring_length(n, f, levels, &mut carried),
+    };
+    told(words, 4, number, &carried)
+}
+
+pub fn most_levels(words: &[u64]) -> bool {
+    let n = word(words, 1, 0) as usize;
+    let f = word(words, 2, 0) as usize;
+    let mut carried = blank();
+    let number = depths::isferghul_most_levels(n, f, &mut carried);
+    told(words, 3, number, &carried)
+}
+
+pub fn level_part(words: &[u64]) -> bool {
+    let n = word(words, 1, 0) as usize;
+    let f = word(words, 2, 0) as usize;
+    let levels = word(words, 3, 0) as usize;
+    let level = word(words, 4, 0) as usize;
+    let mut carried = blank();
+    let number = depths::isferghul_level_part(n, f, levels, level, &mut carried);
+    told(words, 5, number, &carried)
 }
 
 pub fn mirror(words: &[u64]) -> bool {

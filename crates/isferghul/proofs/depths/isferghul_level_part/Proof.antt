@@ -1,0 +1,19 @@
+-- `isferghul_level_part` meets its contract: it tells what the entry answers.
+use mathlib.Core.Path.{sym}
+use Rattle.packed.specs.Answers.{partNumber, partValues}
+use Rattle.isferghul.specs.Telling.{told-as}
+use borrow.Author.Needs.{needs}
+use Rattle.isferghul.proofs.depths.isferghul_level_part.Statement.{statement}
+use Rattle.isferghul.proofs.depths.isferghul_level_part.Tie as tie
+
+level-part-requires : tie.Need-level-part-requires
+level-part-requires c κs = search needs
+
+level-part-requires-2 : tie.Need-level-part-requires-2
+level-part-requires-2 c κs = search needs
+
+returns : tie.Need-returns
+returns c = told-as partNumber partValues (sym (c .before .before .level-part .ensures .answer)) (c .level-part2 .ensures)
+
+pub isferghul-level-part-spec : {M : Type 1} → statement M
+isferghul-level-part-spec = tie.close (tie.spec level-part-requires level-part-requires-2 returns)

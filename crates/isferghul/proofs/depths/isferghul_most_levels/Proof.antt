@@ -1,0 +1,19 @@
+-- `isferghul_most_levels` meets its contract: it tells what the entry answers.
+use mathlib.Core.Path.{sym}
+use Rattle.packed.specs.Answers.{sizeNumber, sizeValues}
+use Rattle.isferghul.specs.Telling.{told-as}
+use borrow.Author.Needs.{needs}
+use Rattle.isferghul.proofs.depths.isferghul_most_levels.Statement.{statement}
+use Rattle.isferghul.proofs.depths.isferghul_most_levels.Tie as tie
+
+most-levels-requires : tie.Need-most-levels-requires
+most-levels-requires c κs = search needs
+
+level-size-requires : tie.Need-level-size-requires
+level-size-requires c κs = search needs
+
+returns : tie.Need-returns
+returns c = told-as sizeNumber sizeValues (sym (c .before .before .most-levels .ensures .answer)) (c .level-size .ensures)
+
+pub isferghul-most-levels-spec : {M : Type 1} → statement M
+isferghul-most-levels-spec = tie.close (tie.spec most-levels-requires level-size-requires returns)

@@ -1,0 +1,195 @@
+-- `restoring` is safe: each list of a line is the front of an array that has room for it.
+use native.Mathlib.Omega.{arith}
+use Rattle.replay.specs.Fronts.{front}
+use borrow.Author.Needs.{needs}
+use Rattle.replay.proofs.packing.restoring.Statement.{statement}
+use Rattle.replay.proofs.packing.restoring.Tie as tie
+
+word-requires : tie.Need-word-requires
+word-requires c κs = search needs
+
+word-requires-2 : tie.Need-word-requires-2
+word-requires-2 c κs = search needs
+
+count-requires : tie.Need-count-requires
+count-requires c κs = search needs
+
+floats-requires : tie.Need-floats-requires
+floats-requires c κs = search needs
+
+add-to-high : tie.Need-add-to-high
+add-to-high c = search needs
+
+count-requires-2 : tie.Need-count-requires-2
+count-requires-2 c κs = search needs
+
+add-floats : tie.Need-add-floats
+add-floats c = search needs
+
+floats-requires-2 : tie.Need-floats-requires-2
+floats-requires-2 c κs = search needs
+
+add-to-packed : tie.Need-add-to-packed
+add-to-packed c = search needs
+
+add-to-packed-2 : tie.Need-add-to-packed-2
+add-to-packed-2 c = search needs
+
+count-requires-3 : tie.Need-count-requires-3
+count-requires-3 c κs = search needs
+
+add-floats-2 : tie.Need-add-floats-2
+add-floats-2 c = search needs
+
+floats-requires-3 : tie.Need-floats-requires-3
+floats-requires-3 c κs = search needs
+
+add-to-first : tie.Need-add-to-first
+add-to-first c = search needs
+
+add-to-first-2 : tie.Need-add-to-first-2
+add-to-first-2 c = search needs
+
+count-requires-4 : tie.Need-count-requires-4
+count-requires-4 c κs = search needs
+
+add-floats-3 : tie.Need-add-floats-3
+add-floats-3 c = search needs
+
+floats-requires-4 : tie.Need-floats-requires-4
+floats-requires-4 c κs = search needs
+
+add-to-second : tie.Need-add-to-second
+add-to-second c = search needs
+
+add-to-second-2 : tie.Need-add-to-second-2
+add-to-second-2 c = search needs
+
+count-requires-5 : tie.Need-count-requires-5
+count-requires-5 c κs = search needs
+
+add-floats-4 : tie.Need-add-floats-4
+add-floats-4 c = search needs
+
+floats-requires-5 : tie.Need-floats-requires-5
+floats-requires-5 c κs = search needs
+
+blank-requires : tie.Need-blank-requires
+blank-requires c κs = search needs
+
+array-share-prefix-low : tie.Need-array-share-prefix-low
+array-share-prefix-low c = search needs
+
+slice-aggregate-isferghul-restore-levels : tie.Need-slice-aggregate-isferghul-restore-levels
+slice-aggregate-isferghul-restore-levels c = front _ _ (c .before .before .before .before .before .before .before .before .before .before .before .count .ensures) (c .before .before .before .before .before .before .before .before .before .before .floats .ensures)
+
+array-share-prefix-high : tie.Need-array-share-prefix-high
+array-share-prefix-high c = search needs
+
+slice-aggregate-isferghul-restore-levels-2 : tie.Need-slice-aggregate-isferghul-restore-levels-2
+slice-aggregate-isferghul-restore-levels-2 c = front _ _ (c .before .before .before .before .before .before .before .before .before .before .count2 .ensures) (c .before .before .before .before .before .before .before .before .before .floats2 .ensures)
+
+array-share-prefix-packed : tie.Need-array-share-prefix-packed
+array-share-prefix-packed c = search needs
+
+slice-aggregate-isferghul-restore-levels-3 : tie.Need-slice-aggregate-isferghul-restore-levels-3
+slice-aggregate-isferghul-restore-levels-3 c = front _ _ (c .before .before .before .before .before .before .before .before .before .count3 .ensures) (c .before .before .before .before .before .before .before .before .floats3 .ensures)
+
+array-borrow-prefix-first : tie.Need-array-borrow-prefix-first
+array-borrow-prefix-first c = search needs
+
+slice-aggregate-isferghul-restore-levels-4 : tie.Need-slice-aggregate-isferghul-restore-levels-4
+slice-aggregate-isferghul-restore-levels-4 c = front _ _ (c .before .before .before .before .before .before .before .before .count4 .ensures) (c .before .before .before .before .before .before .before .floats4 .ensures)
+
+array-borrow-prefix-second : tie.Need-array-borrow-prefix-second
+array-borrow-prefix-second c = search needs
+
+slice-aggregate-isferghul-restore-levels-5 : tie.Need-slice-aggregate-isferghul-restore-levels-5
+slice-aggregate-isferghul-restore-levels-5 c = front _ _ (c .before .before .before .before .before .before .before .count5 .ensures) (c .before .before .before .before .before .before .floats5 .ensures)
+
+isferghul-restore-levels-requires : tie.Need-isferghul-restore-levels-requires
+isferghul-restore-levels-requires c κs = search needs
+
+add-answer : tie.Need-add-answer
+add-answer c = search needs
+
+add-answer-2 : tie.Need-add-answer-2
+add-answer-2 c = search needs
+
+told-requires : tie.Need-told-requires
+told-requires c κs = search needs
+
+returns : tie.Need-returns
+returns c = search needs
+
+answer-length-requires : tie.Need-answer-length-requires
+answer-length-requires c κs = search needs
+
+add-then : tie.Need-add-then
+add-then c = omega (arith, c .answer-length .ensures, c .before .before .before .before .before .before .before .before .before .before .before .before .before .before .before .count5 .ensures, c .before .before .before .before .before .before .before .before .before .before .before .before .before .before .before .before .before .count4 .ensures, c .before .before .before .before .before .before .before .before .before .before .before .before .before .before .before .before .before .before .before .count3 .ensures, c .before .before .before .before .before .before .before .before .before .before .before .before .before .before .before .before .before .before .before .before .before .count2 .ensures, c .before .before .before .before .before .before .before .before .before .before .before .before .before .before .before .before .before .before .before .before .before .before .before .count .ensures)
+
+same-requires : tie.Need-same-requires
+same-requires c κs = search needs
+
+returns-2 : tie.Need-returns-2
+returns-2 c = search needs
+
+add-same : tie.Need-add-same
+add-same c = omega (arith, c .before .before .before .answer-length .ensures, c .before .before .before .before .before .before .before .before .before .before .before .before .before .before .before .before .before .before .count5 .ensures, c .before .before .before .before .before .before .before .before .before .before .before .before .before .before .before .before .before .before .before .before .count4 .ensures, c .before .before .before .before .before .before .before .before .before .before .before .before .before .before .before .before .before .before .before .before .before .before .count3 .ensures, c .before .before .before .before .before .before .before .before .before .before .before .before .before .before .before .before .before .before .before .before .before .before .before .before .count2 .ensures, c .before .before .before .before .before .before .before .before .before .before .before .before .before .before .before .before .before .before .before .before .before .before .before .before .before .before .count .ensures)
+
+same-requires-2 : tie.Need-same-requires-2
+same-requires-2 c κs = search needs
+
+returns-3 : tie.Need-returns-3
+returns-3 c = search needs
+
+pub restoring-spec : {M : Type 1} → statement M
+restoring-spec =
+    tie.close
+    (tie.spec
+    word-requires
+    word-requires-2
+    count-requires
+    floats-requires
+    add-to-high
+    count-requires-2
+    add-floats
+    floats-requires-2
+    add-to-packed
+    add-to-packed-2
+    count-requires-3
+    add-floats-2
+    floats-requires-3
+    add-to-first
+    add-to-first-2
+    count-requires-4
+    add-floats-3
+    floats-requires-4
+    add-to-second
+    add-to-second-2
+    count-requires-5
+    add-floats-4
+    floats-requires-5
+    add-answer
+    add-answer-2
+    blank-requires
+    array-share-prefix-low
+    slice-aggregate-isferghul-restore-levels
+    array-share-prefix-high
+    slice-aggregate-isferghul-restore-levels-2
+    array-share-prefix-packed
+    slice-aggregate-isferghul-restore-levels-3
+    array-borrow-prefix-first
+    slice-aggregate-isferghul-restore-levels-4
+    array-borrow-prefix-second
+    slice-aggregate-isferghul-restore-levels-5
+    isferghul-restore-levels-requires
+    told-requires
+    returns
+    answer-length-requires
+    add-then
+    same-requires
+    returns-2
+    add-same
+    same-requires-2
+    returns-3)
