@@ -46,7 +46,7 @@ module _ (border : ℕ) (low high line : List Float) (levels : ℕ) (packed scra
   levels-ready q z = splitting _ _ _ _ _ _ q (sym tested ∙ done-alone a (sym (t .given) ∙ z))
 
   pub levels-lists : number ≡ 0 → Paired (length low) (length high)
-  levels-lists z = listed _ _ taps (levels-ready refl z .sound .taps .two)
+  levels-lists z = listed _ _ taps (levels-ready refl z .packs .sound .taps .two)
 
   pub levels-refused : noBorder border ≡ false → (number ≡ 0 → ⊥) → LevelsTold border low high line levels packed scratch words number packed scratch words′
   levels-refused e n = record {
@@ -88,7 +88,7 @@ module _ (low high packed : List Float) (n levels : ℕ) (first second : List Fl
   restoring-ready q z = restoring _ _ _ _ _ _ _ q (sym tested ∙ finished z)
 
   pub restoring-lists : number ≡ 0 → Paired (length low) (length high)
-  restoring-lists z = listed _ _ taps (restoring-ready refl z .sound .taps .two)
+  restoring-lists z = listed _ _ taps (restoring-ready refl z .packs .sound .taps .two)
 
   pub restoring-refused : (number ≡ 0 → ⊥) → RestoringTold low high packed n levels first second words number first second words′
   restoring-refused h =
@@ -128,7 +128,7 @@ line-there {low} {high} {packed} {n} {levels} {first} {second} {first′ = first
     let F = length low in
     let k = levelsOf levels in
     let ready = restoring _ _ levels _ _ _ _ refl (done-alone _ (sym (t .told .given) ∙ z)) in
-    let w = subst (λ (f : ℕ). Restoring n f k (length packed) (length first) (length second)) (listed F (length high) refl (ready .sound .taps .two) .count) ready in
+    let w = subst (λ (f : ℕ). Restoring n f k (length packed) (length first) (length second)) (listed F (length high) refl (ready .packs .sound .taps .two) .count) ready in
     ap (λ (x : List Float). take (restoringLength n F) (cond (eqb (k % 2) 0) x first′)) (renewed _ second z (t .seconds))
     ∙ ap (λ (x : List Float). take (restoringLength n F) (cond (eqb (k % 2) 0) (secondAfter binary64 F low high packed n k k second) x)) (renewed _ first z (t .firsts))
-    ∙ whole-front binary64 F low high packed n k (restoringLength n F) first second (w .some) (sym (length-restored binary64 low high packed n F k _ _ _ w refl))
+    ∙ whole-front binary64 F low high packed n k (restoringLength n F) first second (w .packs .some) (sym (length-restored binary64 low high packed n F k _ _ _ w refl))

@@ -97,7 +97,7 @@ levels-same {border} {low} {high} {line} {levels} {packed} {scratch} {bank = ban
     let answered : a ≡ Levelled.answerOf (length line) (tapsOf (length low) (length high)) levels (length packed) (length scratch) =
     p .answer ∙ ap (λ (f : ℕ). Levelled.answerOf (length line) f levels (length packed) (length scratch)) (taps-of m) in
     let real : numberOf a ≡ 0 → bank ≡ Banks.bankOf low (at high) (borderOf border) =
-    λ z. holds m (splitting _ _ _ _ _ _ refl (sym (p .answer) ∙ done-levels a z) .sound .taps .two) in
+    λ z. holds m (splitting _ _ _ _ _ _ refl (sym (p .answer) ∙ done-levels a z) .packs .sound .taps .two) in
     let F = length low in
     let k = levelsOf levels in
     record {
@@ -133,7 +133,7 @@ restoring-same {low} {high} {packed} {n} {levels} {first} {second} {b = b} {bank
     let answered : a ≡ Restorings.answerOf n (tapsOf (length low) (length high)) levels (length packed) (length first) (length second) =
     p .answer ∙ ap (λ (f : ℕ). Restorings.answerOf n f levels (length packed) (length first) (length second)) (taps-of m) in
     let real : numberOf a ≡ 0 → bank ≡ Banks.bankOf low (at high) b =
-    λ z. holds m (restoring _ _ _ _ _ _ _ refl (sym (p .answer) ∙ done-levels a z) .sound .taps .two) in
+    λ z. holds m (restoring _ _ _ _ _ _ _ refl (sym (p .answer) ∙ done-levels a z) .packs .sound .taps .two) in
     let F = length low in
     let k = levelsOf levels in
     record {

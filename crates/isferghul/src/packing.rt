@@ -9,6 +9,7 @@ use border::pad::copy_to;
 use levels::levels_answer;
 use levels::work::split;
 use numbers::most;
+use packed::depth::restoring_need;
 use restoring::restoring_answer;
 use restoring::work::restore;
 
@@ -88,6 +89,5 @@ pub extern "C" fn isferghul_restore_levels(
     copy_to(low, &mut l, 0);
     copy_to(high, &mut h, 0);
     restore(&l, &h, f, packed, n, most(levels, 1), first, second);
-    let length = 2 * ((n + f - 1) / 2) + 2 - f;
-    told::two(0, holder_of(levels), length, carried)
+    told::two(0, holder_of(levels), restoring_need(n, f), carried)
 }

@@ -91,31 +91,31 @@ module _ (a m e : ℕ) (x d l : List Float) {ys : List Float} (h : e ≤ length 
 
 -- ---- a turn of the loop
 -- the line of level k + 1, its lengths and the room for its bands
-pub record Turn (n f levels p s k start line m : ℕ) : Type 0 where
+pub record Turn (n f p s k start line m : ℕ) : Type 0 where
   pub held : Held f n p start line s
   pub next : m ≡ lineAfter n f (k + 1)
   pub inside : start + (m + m) ≤ p
 
 pub turn : (n f levels p s k start line m : ℕ) → Splitting n f levels p s → k < levels → start ≡ detailsTo n f k → line ≡ lineAfter n f k → m ≡ pairs line f
-    → Turn n f levels p s k start line m
+    → Turn n f p s k start line m
 unfolding detailsTo lineAfter
 turn n f levels p s k start line m w h es el em =
-    let long = long-before n f k levels (w .long) h in
-    let fell = fallen n f k (w .sound .taps) (long .0) in
+    let long = long-before n f k levels (w .packs .long) h in
+    let fell = fallen n f k (w .packs .sound .taps) (long .0) in
     let q : m ≡ lineAfter n f (k + 1) = em ∙ ap (λ (j : ℕ). pairs j f) el ∙ sym (line-next n f k) in
     let less : line ≤ n = omega (arith, el, fell .fewer) in
-    let here = room n f k levels (w .sound .taps .two) (omega (arith, h)) in
-    let there = room n f (suc k) levels (w .sound .taps .two) h in
+    let here = room n f k levels (w .packs .sound .taps .two) (omega (arith, h)) in
+    let there = room n f (suc k) levels (w .packs .sound .taps .two) h in
     let r : m ≡ lineAfter n f (suc k) = em ∙ ap (λ (j : ℕ). pairs j f) el in
     record {
       held = record {
-        ready = record { taps = w .sound .taps; limit = omega (arith, less, w .sound .limit); enough = omega (arith, el, long .1) };
+        ready = record { taps = w .packs .sound .taps; limit = omega (arith, less, w .packs .sound .limit); enough = omega (arith, el, long .1) };
         shorter = less;
-        inside = omega (arith, es, el, here, w .filled);
+        inside = omega (arith, es, el, here, w .packs .filled);
         room = omega (arith, padded-shorter n line f less, w .room);
       };
       next = q;
-      inside = omega (arith, es, r, there, w .filled);
+      inside = omega (arith, es, r, there, w .packs .filled);
     }
 
 -- what a level finds when it is not the first

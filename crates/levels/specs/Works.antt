@@ -1,14 +1,13 @@
 -- What the functions that entries share ask for, and the line that a level finds. Definitions only.
-use mathlib.Core.Path.{_≡_}
-use mathlib.Core.Bool.{false, cond}
+use mathlib.Core.Bool.{cond}
 use mathlib.Core.List.{List}
 use Prim.Native.Nat.{ℕ, _+_, _≤_}
 use lib.Dec.{eqb}
 use lib.ListN.{take, drop}
 use lib.Ieee.{Float}
 use Rattle.bank.specs.Lengths.{Analysable, paddedLength}
-use Rattle.packed.specs.Lengths.{lineAfter, tooShort, detailsTo, levelsScratch}
-use Rattle.packed.specs.Works.{Sound}
+use Rattle.packed.specs.Lengths.{levelsScratch}
+use Rattle.packed.specs.Works.{Filled}
 
 -- the n samples that level k + 1 splits: the line's for the first level, else those at `start` in the packed buffer
 abbrev pub lineHeld : List Float → List Float → ℕ → ℕ → ℕ → List Float
@@ -23,8 +22,5 @@ pub record Held (f line packed start n scratch : ℕ) : Type 0 where
 
 -- n samples, f taps, one level or more, a packed buffer of p and a scratch of s that pass every test
 pub record Splitting (n f levels p s : ℕ) : Type 0 where
-  pub sound : Sound n f
-  pub some : 1 ≤ levels
-  pub long : tooShort n f levels ≡ false
-  pub filled : p ≡ detailsTo n f levels + lineAfter n f levels
+  pub packs : Filled n f levels p
   pub room : levelsScratch n f ≤ s

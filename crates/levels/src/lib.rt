@@ -7,6 +7,7 @@ use crate::work::split;
 use bank::Bank;
 use numbers::most;
 use packed::Levels;
+use packed::depth::scratch_need;
 use packed::packed_answer;
 
 // The tests, on lengths alone.
@@ -17,8 +18,7 @@ pub fn levels_answer(n: usize, f: usize, levels: usize, packed: usize, scratch: 
     let Levels::Done = answer else {
         return answer;
     };
-    let m = (n + f - 1) / 2;
-    let need = 2 * m + f - 2 + 2 * m;
+    let need = scratch_need(n, f);
     if scratch < need {
         return Levels::ScratchSize {
             need,

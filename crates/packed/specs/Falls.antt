@@ -184,3 +184,38 @@ no-more n f k (suc j) t e h l =
 -- and levels after which the line is too short are the most
 pub most-levels : (n f k : ℕ) → 2 ≤ f → tooShort n f k ≡ false → lineAfter n f k < f → k ≤ n → mostLevels n f ≡ k
 most-levels n f k t e h l = no-more n f k n t e h l
+
+-- the most are all right
+all-right : (n f j : ℕ) → 2 ≤ f → tooShort n f (longLines n f j) ≡ false
+unfolding longLines tooShort
+all-right n f zero t = refl
+all-right n f (suc j) t = go (all-right n f j t) (decLt (lineAfter n f j) f)
+  where
+    before : f ≤ lineAfter n f j → (k : ℕ) → k ≤ suc j → tooShort n f k ≡ false
+    before h zero l = short-none n f
+    before h (suc k) l =
+        sym (ap (tooShort n f) (add-one k)) ∙ short-next n f k (before h k (omega arith)) (long (decLt (lineAfter n f k) f))
+      where
+        long : Dec (lineAfter n f k < f) → f ≤ lineAfter n f k
+        long (yes s) = let q = short-for-ever n f k j t s (omega arith) in absurd (omega (arith, q, h))
+        long (no s) = omega (arith, s)
+
+    go : tooShort n f (longLines n f j) ≡ false → Dec (lineAfter n f j < f) → tooShort n f (longLines n f (suc j)) ≡ false
+    go e (yes h) = ap (tooShort n f) (cond-true (ltb (lineAfter n f j) f) _ _ (lt-ltb (lineAfter n f j) f h)) ∙ e
+    go _ (no h) =
+        let l : f ≤ lineAfter n f j = omega (arith, h) in
+        let e = before l (suc j) (omega arith) in
+        ap (tooShort n f) (long-lines n f (suc j) e) ∙ e
+
+pub most-allowed : (n f : ℕ) → 2 ≤ f → tooShort n f (mostLevels n f) ≡ false
+most-allowed n f t = all-right n f n t
+
+-- and leave a line that is too short
+pub most-leaves : (n f : ℕ) → GoodTaps f → lineAfter n f (mostLevels n f) < f
+most-leaves n f g = go (decLt (lineAfter n f (mostLevels n f)) f)
+  where
+    go : Dec (lineAfter n f (mostLevels n f) < f) → lineAfter n f (mostLevels n f) < f
+    go (yes h) = h
+    go (no h) =
+        let e = short-next n f (mostLevels n f) (most-allowed n f (g .two)) (omega (arith, h)) in
+        let m = most-is-most n f (mostLevels n f + 1) g e in absurd (omega (arith, m))

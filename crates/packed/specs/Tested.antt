@@ -11,7 +11,7 @@ use lib.Ieee.{Float}
 use mathlib.Core.List.{List, []}
 use Rattle.numbers.specs.Words.{longest, whenDone}
 use Rattle.numbers.specs.Tests.{passed, refused, kept}
-use Rattle.bank.specs.Lengths.{badTaps, pairs}
+use Rattle.bank.specs.Lengths.{badTaps, pairs, Analysable}
 use Rattle.bank.specs.Tested.{good-taps}
 use Rattle.packed.specs.declared.Levels.{Levels}
 use Rattle.packed.specs.declared.Levels.the-variants.{Done, MinFilterSize, ScratchSize, BufferWasTooSmallForLevel, InputSize, Limit, Taps}
@@ -20,8 +20,9 @@ use Rattle.packed.specs.Lengths.{levelsOf, lineAfter, tooShort, detailsT
 use Rattle.packed.specs.declared.parts.Handing.{Handing}
 use Rattle.packed.specs.declared.parts.Handing.the-variants as handing
 use Rattle.packed.specs.Answers.{numberOf, handingNumber, andThen, askedOf, heldOf, handingOf, partAt, HandedOut}
-use Rattle.packed.specs.Works.{Sound, Split, Named, Down}
-use Rattle.packed.specs.Falls.{long-before, all-before, short-at, fallen, most-levels}
+use Rattle.packed.specs.Works.{Sound, Split, Named, Filled, Down}
+use Rattle.packed.specs.Follow.{part-is}
+use Rattle.packed.specs.Falls.{line-none, long-before, all-before, short-at, fallen, most-levels}
 
 -- 0 is the number of done alone
 pub done-alone : (r : Levels) → numberOf r ≡ 0 → r ≡ Done
@@ -35,13 +36,11 @@ done-alone Taps e = absurd (omega arith)
 
 -- both tests are done where the second is after the first
 pub both-done : (a b : Levels) → andThen a b ≡ Done → (a ≡ Done) × (b ≡ Done)
-both-done Done b e = (refl, e)
-both-done (MinFilterSize n f) b e = let q = ap numberOf e in absurd (omega arith)
-both-done (ScratchSize need have) b e = let q = ap numberOf e in absurd (omega arith)
-both-done BufferWasTooSmallForLevel b e = let q = ap numberOf e in absurd (omega arith)
-both-done (InputSize need have) b e = let q = ap numberOf e in absurd (omega arith)
-both-done Limit b e = let q = ap numberOf e in absurd (omega arith)
-both-done Taps b e = let q = ap numberOf e in absurd (omega arith)
+both-done a b e = go (numberOf a) refl e
+  where
+    go : (k : ℕ) → numberOf a ≡ k → whenDone k b a ≡ Done → (a ≡ Done) × (b ≡ Done)
+    go zero q r = (done-alone a q, r)
+    go (suc k) q r = let z = ap numberOf r in absurd (omega (arith, z, q))
 
 -- 1 and 9 are refusals
 short-refused : (n f : ℕ) (t : Bool) → 0 < numberOf (cond t BufferWasTooSmallForLevel (MinFilterSize n f))
@@ -55,6 +54,14 @@ asked-done n f levels e =
     let p2 = passed numberOf (ltb longest n) (p1 .1) (lit< tt) refl in
     let p3 = passed numberOf (tooShort n f (levelsOf levels)) (p2 .1) (short-refused n f (ltb 1 levels)) refl in
     record { sound = record { taps = good-taps f (p1 .0); limit = ltb-false longest n (p2 .0) }; long = p3 .0 }
+
+-- the first line is one to split
+pub first-line : {n f levels : ℕ} → Split n f levels → Analysable n f
+first-line {n} {f} s = record {
+  taps = s .sound .taps;
+  limit = s .sound .limit;
+  enough = omega (arith, long-before n f 0 _ (s .long) (omega arith) .1, line-none n f);
+}
 
 pub held-done : (n f levels p : ℕ) → heldOf n f levels p ≡ Done → Split n f levels × (p ≡ packedLength n f levels)
 unfolding heldOf
@@ -89,15 +96,12 @@ not-all n f levels r h d =
     short-at n f (r .levels) levels l (d .last l)
 
 -- gone down as far as may be, the levels are the most
-pub as-far : (n f : ℕ) (r : Depth) → Sound n f → Down n f longest r → r .levels ≡ mostLevels n f
-as-far n f r s d = sym (most-levels n f (r .levels) (s .taps .two) (d .long) (short (decLt (r .levels) longest)) (omega (arith, q)))
+pub as-far : (n f : ℕ) (r : Depth) → Sound n f → Down n f n r → r .levels ≡ mostLevels n f
+as-far n f r s d = sym (most-levels n f (r .levels) (s .taps .two) (d .long) (short (decLt (r .levels) n)) (d .most))
   where
-    q : lineAfter n f (r .levels) + r .levels ≤ n
-    q = fallen n f (r .levels) (s .taps) (d .long) .fewer
-
-    short : Dec (r .levels < longest) → lineAfter n f (r .levels) < f
+    short : Dec (r .levels < n) → lineAfter n f (r .levels) < f
     short (yes h) = d .last h
-    short (no h) = omega (arith, q, s .limit, s .taps .two)
+    short (no h) = omega (arith, fallen n f (r .levels) (s .taps) (d .long) .fewer, s .taps .two)
 
 -- a part by what going down finds: below the deepest level for level 0, above the level for the others
 pub deepest-part : (n f levels k : ℕ) (r : Depth) → Split n f levels → k ≡ levelsOf levels → Down n f k r
@@ -116,14 +120,11 @@ level-part n f levels (suc k) r p h d =
 -- ---- handing out
 -- it is done where the tests before it are and the level is there, and nowhere else
 named-after : (h : Levels) (t : Bool) (level : ℕ) → whenDone (numberOf h) (cond t (handing.NoSuchLevel level) handing.Done) (handing.Refused h) ≡ handing.Done → (h ≡ Done) × (t ≡ false)
-named-after Done true level e = let q = ap handingNumber e in absurd (omega arith)
-named-after Done false level e = (refl, refl)
-named-after (MinFilterSize n f) t level e = let q = ap handingNumber e in absurd (omega arith)
-named-after (ScratchSize need have) t level e = let q = ap handingNumber e in absurd (omega arith)
-named-after BufferWasTooSmallForLevel t level e = let q = ap handingNumber e in absurd (omega arith)
-named-after (InputSize need have) t level e = let q = ap handingNumber e in absurd (omega arith)
-named-after Limit t level e = let q = ap handingNumber e in absurd (omega arith)
-named-after Taps t level e = let q = ap handingNumber e in absurd (omega arith)
+named-after h t level e = go (numberOf h) refl e
+  where
+    go : (k : ℕ) → numberOf h ≡ k → whenDone k (cond t (handing.NoSuchLevel level) handing.Done) (handing.Refused h) ≡ handing.Done → (h ≡ Done) × (t ≡ false)
+    go zero q r = (done-alone h q, passed handingNumber t r (lit< tt) refl .0)
+    go (suc k) q r = let z = ap handingNumber r in absurd (omega (arith, z, q))
 
 pub handing-done : (n f levels p level : ℕ) → handingOf n f levels p level ≡ handing.Done → Named n f levels level × (p ≡ packedLength n f levels)
 unfolding handingOf
@@ -135,14 +136,12 @@ handing-done n f levels p level e =
 -- what is not done has a number above 0
 refused-after : (h : Levels) (t : Bool) (level : ℕ)
     → let r = whenDone (numberOf h) (cond t (handing.NoSuchLevel level) handing.Done) (handing.Refused h) in (r ≡ handing.Done → ⊥) → 0 < handingNumber r
-refused-after Done true level n = lit< tt
-refused-after Done false level n = absurd (n refl)
-refused-after (MinFilterSize k f) t level n = lit< tt
-refused-after (ScratchSize need have) t level n = lit< tt
-refused-after BufferWasTooSmallForLevel t level n = lit< tt
-refused-after (InputSize need have) t level n = lit< tt
-refused-after Limit t level n = lit< tt
-refused-after Taps t level n = lit< tt
+refused-after h t level n = go (numberOf h) refl t n
+  where
+    go : (k : ℕ) → numberOf h ≡ k → (t : Bool) → let r = whenDone k (cond t (handing.NoSuchLevel level) handing.Done) (handing.Refused h) in (r ≡ handing.Done → ⊥) → 0 < handingNumber r
+    go zero q true n = lit< tt
+    go zero q false n = absurd (n refl)
+    go (suc k) q t n = omega (arith, q)
 
 pub handed-none : {n f levels level : ℕ} {packed : List Float} (r : Handing) → r ≡ handingOf n f levels (length packed) level → (r ≡ handing.Done → ⊥) → HandedOut n f levels level packed []
 unfolding handingOf
@@ -152,8 +151,11 @@ handed-none {n} {f} {levels} {level} {packed} r e h =
 pub handed-part : (n f levels level start count : ℕ) (packed : List Float) → handingOf n f levels (length packed) level ≡ handing.Done → start ≡ levelStart n f levels level → count ≡ levelCount n f levels level
     → HandedOut n f levels level packed (take (start + count - start) (drop start packed))
 handed-part n f levels level start count packed e p q =
-    let c : start + count - start ≡ levelCount n f levels level = omega (arith, q) in
-    record {
-      handed = ap (λ (k : ℕ). take k (drop start packed)) c ∙ ap (λ (k : ℕ). take (levelCount n f levels level) (drop k packed)) p
-          ∙ sym (ap (λ (r : Handing). whenDone (handingNumber r) (partAt n f levels packed level) []) e);
-    }
+    record { handed = part-is n f levels level start count packed p q ∙ sym (ap (λ (r : Handing). whenDone (handingNumber r) (partAt n f levels packed level) []) e) }
+
+-- ---- what the work of analysis and of restoring is given
+-- k is the number of levels by another name
+pub filled : (n f levels k p : ℕ) → k ≡ levelsOf levels → heldOf n f levels p ≡ Done → Filled n f k p
+filled n f levels k p z e =
+    let d = held-done n f levels p e in
+    rw z (record { sound = d .0 .sound; some = omega arith; long = d .0 .long; filled = d .1 })

@@ -1,7 +1,7 @@
 -- What the functions that entries share ask for, and how far down a line was found to go. Definitions only.
 use mathlib.Core.Path.{_≡_}
 use mathlib.Core.Bool.{false}
-use Prim.Native.Nat.{ℕ, _≤_, _<_}
+use Prim.Native.Nat.{ℕ, _+_, _≤_, _<_}
 use Rattle.numbers.specs.Words.{longest}
 use Rattle.bank.specs.Lengths.{GoodTaps}
 use Rattle.packed.specs.declared.depth.Depth.{Depth}
@@ -21,6 +21,13 @@ pub record Split (n f levels : ℕ) : Type 0 where
 pub record Named (n f levels level : ℕ) : Type 0 where
   pub split : Split n f levels
   pub named : level ≤ levelsOf levels
+
+-- one level or more that are as many as they say, and a packed buffer of p that has its length
+pub record Filled (n f levels p : ℕ) : Type 0 where
+  pub sound : Sound n f
+  pub some : 1 ≤ levels
+  pub long : tooShort n f levels ≡ false
+  pub filled : p ≡ detailsTo n f levels + lineAfter n f levels
 
 -- so many levels, or as many as the line allows
 pub record Down (n f levels : ℕ) (r : Depth) : Type 0 where

@@ -1,6 +1,7 @@
 // How far down a line goes, and where that leads in the packed buffer; taps and samples have been tested.
 ghost use mathlib.Core.Path.{_≡_};
-ghost use Rattle.packed.specs.Lengths.{packedLength, levelStart, levelCount};
+ghost use Rattle.packed.specs.Lengths.{packedLength, levelStart, levelCount, levelsScratch, restoringLength};
+ghost use Rattle.bank.specs.Lengths.{Analysable};
 ghost use Rattle.packed.specs.Works.{Sound, Split, Named, Down};
 use numbers::most;
 
@@ -38,6 +39,24 @@ pub fn packed_need(n: usize, f: usize, levels: usize) -> usize
 {
     let deepest = down(n, f, most(levels, 1));
     deepest.details + deepest.line
+}
+
+// How much scratch analysis over levels needs.
+pub fn scratch_need(n: usize, f: usize) -> usize
+    requires { ⌜ Sound n f ⌝ }
+    ensures { λ r. ⌜ r ≡ levelsScratch n f ⌝ }
+{
+    let m = (n + f - 1) / 2;
+    2 * m + f - 2 + 2 * m
+}
+
+// How long each work buffer of restoring has to be.
+pub fn restoring_need(n: usize, f: usize) -> usize
+    requires { ⌜ Analysable n f ⌝ }
+    ensures { λ r. ⌜ r ≡ restoringLength n f ⌝ }
+{
+    let m = (n + f - 1) / 2;
+    2 * m + 2 - f
 }
 
 // Where a part of it begins, and how many numbers it has.

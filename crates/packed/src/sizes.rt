@@ -5,7 +5,8 @@ use crate::asked_answer;
 use crate::depth::down;
 use crate::depth::packed_need;
 use crate::depth::part_of;
-use numbers::LONGEST;
+use crate::depth::restoring_need;
+use crate::depth::scratch_need;
 use numbers::most;
 
 pub enum LevelSize {
@@ -38,8 +39,7 @@ pub fn levels_scratch(n: usize, f: usize, levels: usize) -> LevelSize
     let Levels::Done = answer else {
         return LevelSize::Refused(answer);
     };
-    let m = (n + f - 1) / 2;
-    LevelSize::Length(2 * m + f - 2 + 2 * m)
+    LevelSize::Length(scratch_need(n, f))
 }
 
 // How long each work buffer of restoring has to be.
@@ -50,8 +50,7 @@ pub fn restoring_length(n: usize, f: usize, levels: usize) -> LevelSize
     let Levels::Done = answer else {
         return LevelSize::Refused(answer);
     };
-    let m = (n + f - 1) / 2;
-    LevelSize::Length(2 * m + 2 - f)
+    LevelSize::Length(restoring_need(n, f))
 }
 
 // The most levels that a line allows.
@@ -62,7 +61,7 @@ pub fn most_levels(n: usize, f: usize) -> LevelSize
     let Levels::Done = answer else {
         return LevelSize::Refused(answer);
     };
-    LevelSize::Length(down(n, f, LONGEST).levels)
+    LevelSize::Length(down(n, f, n).levels)
 }
 
 // Where a level's details begin in the packed buffer, and how many there are; level 0 names the last approximations.

@@ -8,7 +8,7 @@ use native.Mathlib.Decide.{decLt}
 use native.Mathlib.Omega.{arith}
 use borrow.Author.Tests.{eq-eqb, ne-eqb}
 use lib.Dec.{eqb}
-use lib.ListN.{length, take, drop, length-drop}
+use lib.ListN.{length, take, drop}
 use lib.Seq.{length-take-le, take-append-le, take-length}
 use lib.Ieee.{Float, Format}
 use Rattle.numbers.specs.Words.{cleared}
@@ -16,40 +16,17 @@ use Rattle.numbers.specs.Write.{length-tab}
 use Rattle.numbers.specs.Tests.{cond-true, cond-false}
 use Rattle.bank.specs.Lengths.{pairs, lineLength}
 use Rattle.synthesis.specs.Lines.{synthesised}
-use Rattle.packed.specs.Lengths.{levelsOf, lineAfter, tooShort, detailsTo, levelStart, levelCount, packedLength}
+use Rattle.synthesis.specs.Runs.{length-synthesised}
+use Rattle.packed.specs.Lengths.{lineAfter}
 use Rattle.packed.specs.Answers.{partAt}
-use Rattle.packed.specs.Works.{Named}
 use Rattle.packed.specs.Falls.{all-before, fallen, first-longest}
-use Rattle.packed.specs.Follow.{inside}
+use Rattle.packed.specs.Follow.{length-part, as-many, whole-length}
 use Rattle.restoring.specs.Lines.{joinOf, restoredAfter, restored, laid, firstAfter, secondAfter}
 use Rattle.restoring.specs.Works.{lineHeld, turnFirst, turnSecond, Turning, Restoring}
 
 -- ---- lengths
-pub length-synthesised : (g : Format) (F : ℕ) (low high a d out : List Float) → length (synthesised g F low high a d out) ≡ length out
-unfolding synthesised
-length-synthesised g F low high a d out = length-tab _ (length out)
-
 pub length-join : (g : Format) (F : ℕ) (low high line detail : List Float) → length (joinOf g F low high line detail) ≡ lineLength (length detail) F
 length-join g F low high line detail = length-synthesised g F low high (take (length detail) line) detail (cleared (lineLength (length detail) F)) ∙ length-tab _ (lineLength (length detail) F)
-
--- a part of a packed buffer that has its length
-pub length-part : (n F levels level : ℕ) (packed : List Float) → 2 ≤ F → level ≤ levelsOf levels → length packed ≡ packedLength n F levels
-    → length (partAt n F levels packed level) ≡ levelCount n F levels level
-length-part n F levels level packed t h e =
-    let i = inside n F levels level t h in
-    length-take-le (levelCount n F levels level) (drop (levelStart n F levels level) packed) (omega (arith, length-drop (levelStart n F levels level) packed, i, e))
-
--- that part by what was found of it
-pub part-is : (n F levels level start count : ℕ) (packed : List Float) → start ≡ levelStart n F levels level → count ≡ levelCount n F levels level
-    → take (start + count - start) (drop start packed) ≡ partAt n F levels packed level
-part-is n F levels level start count packed es ec =
-    let c : start + count - start ≡ levelCount n F levels level = omega (arith, ec) in
-    ap (λ (k : ℕ). take k (drop start packed)) c ∙ ap (λ (k : ℕ). take (levelCount n F levels level) (drop k packed)) es
-
--- a level that is not 0 has as many details as its line after it
-pub count-is : (n F levels level : ℕ) → 1 ≤ level → levelCount n F levels level ≡ lineAfter n F level
-count-is n F levels zero h = absurd (omega arith)
-count-is n F levels (suc k) h = refl
 
 -- ---- one join at a buffer's front
 pub laid-front : (g : Format) (F : ℕ) (low high line detail out : List Float) (m n : ℕ) {ys : List Float} → m ≡ length detail → n ≡ lineLength m F → n ≤ length out
@@ -135,26 +112,13 @@ module _ (g : Format) (F : ℕ) (low high packed : List Float) (n levels : ℕ) 
         ∙ sym (ap B (add-one j))
 
 -- ---- the lengths of a turn
--- one level or more are as many as they say
-pub as-many : {n f levels p a b : ℕ} → Restoring n f levels p a b → levelsOf levels ≡ levels
-as-many w = omega (arith, w .some)
-
-pub named : (n f levels p a b level : ℕ) → Restoring n f levels p a b → level ≤ levels → Named n f levels level
-named n f levels p a b level w h = record {
-  split = record { sound = w .sound; long = ap (tooShort n f) (as-many w) ∙ w .long };
-  named = omega (arith, h);
-}
-
-pub whole-length : {n f levels p a b : ℕ} → Restoring n f levels p a b → p ≡ packedLength n f levels
-whole-length {n} {f} w = w .filled ∙ ap (λ (k : ℕ). detailsTo n f k + lineAfter n f k) (sym (as-many w))
-
 -- the line that j joins leave is no shorter than the next level's details
 pub long-enough : (g : Format) (low high packed : List Float) (n F levels p a b j : ℕ) → Restoring n F levels p a b → length packed ≡ p → j ≤ levels
     → lineAfter n F (levels - j) ≤ length (restoredAfter g F low high packed n levels j)
 unfolding restoredAfter lineAfter
 long-enough g low high packed n F levels p a b zero w e h =
-    let l = length-part n F levels 0 packed (w .sound .taps .two) (omega arith) (e ∙ whole-length w) in
-    let r : length (restoredAfter g F low high packed n levels 0) ≡ lineAfter n F levels = l ∙ ap (lineAfter n F) (as-many w) in
+    let l = length-part n F levels 0 packed (w .packs .sound .taps .two) (omega arith) (e ∙ whole-length (w .packs)) in
+    let r : length (restoredAfter g F low high packed n levels 0) ≡ lineAfter n F levels = l ∙ ap (lineAfter n F) (as-many (w .packs)) in
     let z : levels - 0 ≡ levels = omega arith in
     omega (arith, r, ap (lineAfter n F) z)
 long-enough g low high packed n F levels p a b (suc j) w e h = go (levels - j) refl
@@ -164,19 +128,19 @@ long-enough g low high packed n F levels p a b (suc j) w e h = go (levels - j) r
     go (suc k) q =
         let less : levels - suc j ≡ k = omega (arith, q) in
         let c : length (partAt n F levels packed (levels - j)) ≡ pairs (lineAfter n F k) F =
-        ap (λ (i : ℕ). length (partAt n F levels packed i)) q ∙ length-part n F levels (suc k) packed (w .sound .taps .two) (omega (arith, q)) (e ∙ whole-length w) in
+        ap (λ (i : ℕ). length (partAt n F levels packed i)) q ∙ length-part n F levels (suc k) packed (w .packs .sound .taps .two) (omega (arith, q)) (e ∙ whole-length (w .packs)) in
         let l = length-join g F low high (restoredAfter g F low high packed n levels j) (partAt n F levels packed (levels - j)) in
-        omega (arith, l, c, ap (lineAfter n F) less, w .sound .taps .two)
+        omega (arith, l, c, ap (lineAfter n F) less, w .packs .sound .taps .two)
 
 -- a level's join has room in either buffer
 pub turning : (n f levels p a b j deepest m : ℕ) → Restoring n f levels p a b → j < levels → deepest ≡ lineAfter n f levels → m ≡ lineAfter n f (levels - j) → Turning f deepest m j a b
 turning n f levels p a b j deepest m w h ed em =
-    let q = all-before n f (levels - j) levels (w .long) (omega arith) in
-    let r = fallen n f (levels - j) (w .sound .taps) q in
-    let s = first-longest n f (levels - j) (w .sound .taps .two) q (omega (arith, h)) in
+    let q = all-before n f (levels - j) levels (w .packs .long) (omega arith) in
+    let r = fallen n f (levels - j) (w .packs .sound .taps) q in
+    let s = first-longest n f (levels - j) (w .packs .sound .taps .two) q (omega (arith, h)) in
     record {
-      taps = w .sound .taps;
-      few = omega (arith, em, r .fewer, w .sound .limit);
+      taps = w .packs .sound .taps;
+      few = omega (arith, em, r .fewer, w .packs .sound .limit);
       deep = λ z. let e : levels - j ≡ levels = omega (arith, z) in omega (arith, ed, em, ap (lineAfter n f) e);
       grown = omega (arith, em, r .enough (omega (arith, h)));
       room = omega (arith, em, s, w .room);

@@ -15,40 +15,32 @@ use Rattle.packed.specs.declared.Levels.{Levels}
 use Rattle.packed.specs.declared.Levels.the-variants.{Done}
 use Rattle.packed.specs.Lengths.{levelsOf, lineAfter, restoringLength}
 use Rattle.packed.specs.Answers.{numberOf, heldOf, partAt}
-use Rattle.packed.specs.Tested.{done-alone, both-done, held-done}
+use Rattle.packed.specs.Tested.{done-alone, both-done, filled}
+use Rattle.packed.specs.Follow.{length-part, whole-length}
 use Rattle.restoring.specs.Lines.{restoredAfter, restored}
 use Rattle.restoring.specs.Restorings.{answerOf, Restored, HandedOut}
-use Rattle.restoring.specs.Steps.{length-join, length-part, whole-length, whole-front}
+use Rattle.restoring.specs.Steps.{length-join, whole-front}
 use Rattle.restoring.specs.Works.{Restoring}
 
 -- k is the number of levels by another name
 pub restoring : (n f levels k p a b : ℕ) → k ≡ levelsOf levels → answerOf n f levels p a b ≡ Done → Restoring n f k p a b
 unfolding answerOf
-restoring n f levels k p a b z e = rw z (
+restoring n f levels k p a b z e =
     let q = both-done (heldOf n f levels p) _ e in
-    let d = held-done n f levels p (q .0) in
     let t = passed numberOf (ltb a (restoringLength n f)) (q .1) (lit< tt) refl in
     let u = passed numberOf (ltb b (restoringLength n f)) (t .1) (lit< tt) refl in
-    record {
-      sound = d .0 .sound;
-      some = omega arith;
-      long = d .0 .long;
-      filled = d .1;
-      room = ltb-false a (restoringLength n f) (t .0);
-      space = ltb-false b (restoringLength n f) (u .0);
-    }
-    )
+    record { packs = filled n f levels k p z (q .0); room = ltb-false a (restoringLength n f) (t .0); space = ltb-false b (restoringLength n f) (u .0) }
 
 -- the whole line has the first level's synthesis length
 pub length-restored : (g : Format) (low high packed : List Float) (n F levels p a b : ℕ) → Restoring n F levels p a b → length packed ≡ p
     → length (restored g F low high packed n levels) ≡ restoringLength n F
 unfolding restoredAfter lineAfter
-length-restored g low high packed n F zero p a b w e = absurd (omega (arith, w .some))
+length-restored g low high packed n F zero p a b w e = absurd (omega (arith, w .packs .some))
 length-restored g low high packed n F (suc j) p a b w e =
     let one : suc j - j ≡ 1 = omega arith in
     length-join g F low high (restoredAfter g F low high packed n (suc j) j) (partAt n F (suc j) packed (suc j - j))
     ∙ ap (λ (k : ℕ). lineLength (length (partAt n F (suc j) packed k)) F) one
-    ∙ ap (λ (m : ℕ). lineLength m F) (length-part n F (suc j) 1 packed (w .sound .taps .two) (omega arith) (e ∙ whole-length w))
+    ∙ ap (λ (m : ℕ). lineLength m F) (length-part n F (suc j) 1 packed (w .packs .sound .taps .two) (omega arith) (e ∙ whole-length (w .packs)))
 
 -- ---- the part handed out: none on a refusal, else the front of the buffer that holds the line
 pub none-handed : {bank : Bank} {packed : List Float} {n levels : ℕ} {first second : List Float} (r : Levels)
@@ -73,10 +65,10 @@ module _ (bank : Bank) (packed : List Float) (n levels : ℕ) (first second firs
   second-handed e =
       as-handed
       (ap (take m) (renewed _ second (ap numberOf done) (p .seconds) ∙ sym (cond-true (eqb (levelsOf levels % 2) 0) _ _ (eq-eqb (levelsOf levels % 2) 0 (ap (λ (j : ℕ). j % 2) (sym count) ∙ e))))
-      ∙ whole-front binary64 (bank .taps) (bank .low) (bank .high) packed n (levelsOf levels) m first second (all .some) length-line)
+      ∙ whole-front binary64 (bank .taps) (bank .low) (bank .high) packed n (levelsOf levels) m first second (all .packs .some) length-line)
 
   pub first-handed : (k % 2 ≡ 0 → ⊥) → HandedOut bank packed n levels first second (take m first′)
   first-handed h =
       as-handed
       (ap (take m) (renewed _ first (ap numberOf done) (p .firsts) ∙ sym (cond-false (eqb (levelsOf levels % 2) 0) _ _ (ne-eqb (levelsOf levels % 2) 0 (λ e. h (ap (λ (j : ℕ). j % 2) count ∙ e)))))
-      ∙ whole-front binary64 (bank .taps) (bank .low) (bank .high) packed n (levelsOf levels) m first second (all .some) length-line)
+      ∙ whole-front binary64 (bank .taps) (bank .low) (bank .high) packed n (levelsOf levels) m first second (all .packs .some) length-line)

@@ -1,14 +1,14 @@
 -- What the functions that entries share ask for, and what one join leaves. Definitions only.
 use mathlib.Core.Path.{_≡_}
-use mathlib.Core.Bool.{false, cond}
+use mathlib.Core.Bool.{cond}
 use mathlib.Core.List.{List}
 use Prim.Native.Nat.{ℕ, _+_, _%_, _≤_}
 use lib.Dec.{eqb}
 use lib.Ieee.{Float, Format}
 use Rattle.numbers.specs.Words.{longest}
 use Rattle.bank.specs.Lengths.{GoodTaps, lineLength}
-use Rattle.packed.specs.Lengths.{lineAfter, tooShort, detailsTo, restoringLength}
-use Rattle.packed.specs.Works.{Sound}
+use Rattle.packed.specs.Lengths.{restoringLength}
+use Rattle.packed.specs.Works.{Filled}
 use Rattle.restoring.specs.Lines.{joinOf, laid}
 
 -- where join j finds its approximations: in the packed buffer, then in the buffer that the join before wrote
@@ -41,9 +41,6 @@ pub record Turning (f deepest m j first second : ℕ) : Type 0 where
 
 -- n samples, f taps, one level or more, a packed buffer of p and work buffers of a and b that pass every test
 pub record Restoring (n f levels p a b : ℕ) : Type 0 where
-  pub sound : Sound n f
-  pub some : 1 ≤ levels
-  pub long : tooShort n f levels ≡ false
-  pub filled : p ≡ detailsTo n f levels + lineAfter n f levels
+  pub packs : Filled n f levels p
   pub room : restoringLength n f ≤ a
   pub space : restoringLength n f ≤ b

@@ -7,6 +7,7 @@ use crate::work::restore;
 use bank::Bank;
 use numbers::most;
 use packed::Levels;
+use packed::depth::restoring_need;
 use packed::packed_answer;
 
 // The tests, on lengths alone.
@@ -24,7 +25,7 @@ pub fn restoring_answer(
     let Levels::Done = answer else {
         return answer;
     };
-    let need = 2 * ((n + f - 1) / 2) + 2 - f;
+    let need = restoring_need(n, f);
     if first < need {
         return Levels::ScratchSize { need, have: first };
     }
@@ -72,7 +73,7 @@ pub fn restored_line<'a>(
     let Levels::Done = answer else {
         return &mut first[..0];
     };
-    let length = 2 * ((n + f - 1) / 2) + 2 - f;
+    let length = restoring_need(n, f);
     if most(levels, 1) % 2 == 0 {
         &mut second[..length]
     } else {

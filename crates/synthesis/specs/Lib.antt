@@ -1,5 +1,5 @@
 -- Synthesis of one line. Definitions: Sums, Lines, then what the entry promises: Syntheses; Works, what the functions behind it ask for.
--- Laws: Meets, Taps, Joins, Tested, Unique.
+-- Laws: Meets, Taps, Joins, Runs, Tested, Unique.
 pub mod Sums
 pub mod Lines
 pub mod Syntheses
@@ -7,5 +7,6 @@ pub mod Works
 pub mod Meets
 pub mod Taps
 pub mod Joins
+pub mod Runs
 pub mod Tested
 pub mod Unique

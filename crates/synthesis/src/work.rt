@@ -119,7 +119,7 @@ pub fn clear(line: &mut [f64])
     }
 }
 
-// The same into an output that is cleared first.
+// The pairs of `join` into an output that is cleared first, over taps of its own: a `join` with two callers is not inlined, and then tests each pair for taps that lie in the output.
 pub fn join_cleared(
     low: &[f64; 64],
     high: &[f64; 64],
@@ -131,6 +131,12 @@ pub fn join_cleared(
     requires { ⌜ Joinable f (length (now approx)) (length (now detail)) (length (now out)) ⌝ }
     ensures { λ _. ⌜ now (out .exit) ≡ synthesised binary64 f (now (low .entry)) (now (high .entry)) (now (approx .entry)) (now (detail .entry)) (cleared (length (now (out .entry)))) ⌝ }
 {
+    let l = *low;
+    let h = *high;
     clear(out);
-    join(low, high, f, approx, detail, out);
+    let start = (f - 2) / 2;
+    let end = most(start, out.len() / 2);
+    edge(&l, &h, f, approx, detail, out, 0, start);
+    let done = inner(&l, &h, f, approx, detail, out, start, end);
+    edge(&l, &h, f, approx, detail, out, done, approx.len());
 }

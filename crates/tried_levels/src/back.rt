@@ -1,4 +1,4 @@
-// Lines there and back over levels by banks that restore: the line comes back as it was, behind an odd one the border's next sample.
+// Lines over several levels and back: by banks that restore a line, and by one that rounds at every step.
 use crate::calls::line_of;
 use crate::calls::split;
 use bank::Bank;

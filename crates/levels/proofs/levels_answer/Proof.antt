@@ -9,11 +9,11 @@ use Rattle.packed.specs.declared.Levels.the-variants.{Done, ScratchSize}
 use Rattle.packed.specs.Answers.{heldOf}
 use Rattle.packed.specs.Lengths.{levelsScratch}
 use Rattle.packed.specs.Tested.{stopped, went-on, held-done}
-use Rattle.packed.specs.Works.{Split}
 use Rattle.levels.specs.Analyses.{answerOf}
 use Rattle.levels.proofs.levels_answer.Statement.{statement}
 use Rattle.levels.proofs.levels_answer.Tie as tie
-use mathlib.Core.Path.{_≡_, _∙_, refl, sym}
+use mathlib.Core.Path.{_≡_, _∙_, refl, sym, ap}
+use Prim.Native.Nat.{ℕ, _≤_, _<_}
 use native.Mathlib.Omega.{arith}
 
 packed-answer-requires : tie.Need-packed-answer-requires
@@ -29,43 +29,30 @@ returns c = let r = c .before .packed-answer .result in stopped r _ (λ x. x) (c
 held : (c : tie.After-enum-told) → let a = c .before .before .before .args in heldOf (a .n) (a .f) (a .levels) (a .packed) ≡ Done
 held c = sym (c .before .before .packed-answer .ensures) ∙ c .enum-told .given .1
 
-all : (c : tie.After-enum-told) → let a = c .before .before .before .args in Split (a .n) (a .f) (a .levels)
-all c = let a = c .before .before .before .args in held-done (a .n) (a .f) (a .levels) (a .packed) (held c) .0
+scratch-need-requires : tie.Need-scratch-need-requires
+scratch-need-requires c κs = let a = c .before .before .before .args in held-done (a .n) (a .f) (a .levels) (a .packed) (held c) .0 .sound
 
-add-m : tie.Need-add-m
-add-m c = omega (arith, all c .sound .limit, all c .sound .taps .most, all c .sound .taps .two)
+-- this test, over plain variables
+short : (n f levels p s need : ℕ) → heldOf n f levels p ≡ Done → need ≡ levelsScratch n f → s < need → ScratchSize need s ≡ answerOf n f levels p s
+unfolding answerOf
+short n f levels p s need e q h =
+    went-on _ _ e (ap (λ (k : ℕ). ScratchSize k s) q ∙ sym (cond-true (ltb s (levelsScratch n f)) _ Done (lt-ltb s (levelsScratch n f) (omega (arith, q, h)))))
 
-sub-m : tie.Need-sub-m
-sub-m c = omega (arith, all c .sound .limit, all c .sound .taps .most, all c .sound .taps .two)
-
-mul-need : tie.Need-mul-need
-mul-need c = omega (arith, all c .sound .limit, all c .sound .taps .most, all c .sound .taps .two)
-
-add-need : tie.Need-add-need
-add-need c = omega (arith, all c .sound .limit, all c .sound .taps .most, all c .sound .taps .two)
-
-sub-need : tie.Need-sub-need
-sub-need c = omega (arith, all c .sound .limit, all c .sound .taps .most, all c .sound .taps .two)
-
-mul-need-2 : tie.Need-mul-need-2
-mul-need-2 c = omega (arith, all c .sound .limit, all c .sound .taps .most, all c .sound .taps .two)
-
-add-need-2 : tie.Need-add-need-2
-add-need-2 c = omega (arith, all c .sound .limit, all c .sound .taps .most, all c .sound .taps .two)
+enough : (n f levels p s need : ℕ) → heldOf n f levels p ≡ Done → need ≡ levelsScratch n f → need ≤ s → Done ≡ answerOf n f levels p s
+unfolding answerOf
+enough n f levels p s need e q h = went-on _ _ e (sym (cond-false (ltb s (levelsScratch n f)) (ScratchSize (levelsScratch n f) s) Done (le-ltb s (levelsScratch n f) (omega (arith, q, h)))))
 
 returns-2 : tie.Need-returns-2
-unfolding answerOf
 returns-2 c =
-    let a = c .before .before .before .before .args in
-    let need = levelsScratch (a .n) (a .f) in
-    went-on _ _ (held (c .before)) (sym (cond-true (ltb (a .scratch) need) (ScratchSize need (a .scratch)) Done (lt-ltb (a .scratch) need (omega (arith, c .if1 .taken)))))
+    let w = c .before in
+    let a = w .before .before .before .before .args in
+    short (a .n) (a .f) (a .levels) (a .packed) (a .scratch) (w .scratch-need .result) (held (w .before)) (w .scratch-need .ensures) (omega (arith, c .if1 .taken))
 
 returns-3 : tie.Need-returns-3
-unfolding answerOf
 returns-3 c =
-    let a = c .before .before .before .before .args in
-    let need = levelsScratch (a .n) (a .f) in
-    went-on _ _ (held (c .before)) (sym (cond-false (ltb (a .scratch) need) (ScratchSize need (a .scratch)) Done (le-ltb (a .scratch) need (omega (arith, c .if1 .left)))))
+    let w = c .before in
+    let a = w .before .before .before .before .args in
+    enough (a .n) (a .f) (a .levels) (a .packed) (a .scratch) (w .scratch-need .result) (held (w .before)) (w .scratch-need .ensures) (omega (arith, c .if1 .left))
 
 pub levels-answer-spec : {M : Type 1} → statement M
-levels-answer-spec = tie.close (tie.spec packed-answer-requires enum-told returns add-m sub-m mul-need add-need sub-need mul-need-2 add-need-2 returns-2 returns-3)
+levels-answer-spec = tie.close (tie.spec packed-answer-requires enum-told returns scratch-need-requires returns-2 returns-3)

@@ -9,7 +9,7 @@ use mathlib.Core.Path.{_∙_, refl, sym}
 use native.Mathlib.Omega.{arith}
 use Rattle.numbers.specs.Tests.{key-above, other}
 use Rattle.packed.proofs.Levels.{enum}
-use Rattle.packed.specs.Falls.{line-none, long-before}
+use Rattle.packed.specs.Tested.{first-line}
 use Rattle.packed.specs.Lengths.{levelsOf}
 use Rattle.restoring.specs.Tested.{restoring, none-handed, first-handed, second-handed}
 use Rattle.restoring.specs.Works.{Restoring}
@@ -39,56 +39,47 @@ all c =
     let a = w .before .before .before .before .before .before .args in
     restoring (a .n) (a .bank .taps) (a .levels) (levelsOf (a .levels)) _ _ _ refl (sym (w .restore-levels .ensures .answer) ∙ c .enum-told .given .1)
 
-add-length : tie.Need-add-length
-add-length c = omega (arith, all c .sound .limit, all c .sound .taps .most)
-
-sub-length : tie.Need-sub-length
-sub-length c = omega (arith, all c .sound .taps .two)
-
-mul-length : tie.Need-mul-length
-mul-length c = omega (arith, all c .sound .limit, all c .sound .taps .most)
-
-add-length-2 : tie.Need-add-length-2
-add-length-2 c = omega (arith, all c .sound .limit, all c .sound .taps .most)
-
--- the first line is no shorter than f
-sub-length-2 : tie.Need-sub-length-2
-sub-length-2 c =
+restoring-need-requires : tie.Need-restoring-need-requires
+restoring-need-requires c κs =
     let a = c .before .before .before .before .before .before .before .before .before .before .before .before .args in
-    omega (arith, long-before (a .n) (a .bank .taps) 0 _ (all c .long) (omega arith) .1, line-none (a .n) (a .bank .taps), all c .sound .taps .two)
+    first-line {levels = a .levels} (record { sound = all c .packs .sound; long = all c .packs .long })
 
 most-requires : tie.Need-most-requires
 most-requires c κs = search needs
 
 slice-aggregate-result-2 : tie.Need-slice-aggregate-result-2
 slice-aggregate-result-2 c =
-    let e = c .before .before .before in
+    let need = c .before .before .before in
+    let e = need .before in
     let w = e .before .before .before .before .before .before in
-    sym (length-take-le _ _ (omega (arith, all e .space, w .restore-levels .kept .1 .1 .1 .1 .1 .0)))
+    sym (length-take-le _ _ (omega (arith, need .restoring-need .ensures, all e .space, w .restore-levels .kept .1 .1 .1 .1 .1 .0)))
 
 slice-aggregate-result-3 : tie.Need-slice-aggregate-result-3
 slice-aggregate-result-3 c =
-    let e = c .before .before .before in
+    let need = c .before .before .before in
+    let e = need .before in
     let w = e .before .before .before .before .before .before in
-    sym (length-take-le _ _ (omega (arith, all e .room, w .restore-levels .kept .1 .1 .1 .1 .0)))
+    sym (length-take-le _ _ (omega (arith, need .restoring-need .ensures, all e .room, w .restore-levels .kept .1 .1 .1 .1 .0)))
 
 returns-2 : tie.Need-returns-2
 returns-2 c =
     let t = c .before in
-    let e = t .before .before in
+    let need = t .before .before in
+    let e = need .before in
     let w = e .before .before .before .before .before .before in
     let a = w .before .before .before .before .before .before .args in
     second-handed (a .bank) (now (a .packed)) (a .n) (a .levels) (now (a .first)) (now (a .second)) _ _ (w .restore-levels .result) (t .before .most .result) _
-    (w .restore-levels .ensures) (e .enum-told .given .1) (t .before .most .ensures) refl (omega (arith, t .if1 .taken))
+    (w .restore-levels .ensures) (e .enum-told .given .1) (t .before .most .ensures) (need .restoring-need .ensures) (omega (arith, t .if1 .taken))
 
 returns-3 : tie.Need-returns-3
 returns-3 c =
     let t = c .before in
-    let e = t .before .before in
+    let need = t .before .before in
+    let e = need .before in
     let w = e .before .before .before .before .before .before in
     let a = w .before .before .before .before .before .before .args in
     first-handed (a .bank) (now (a .packed)) (a .n) (a .levels) (now (a .first)) (now (a .second)) _ _ (w .restore-levels .result) (t .before .most .result) _
-    (w .restore-levels .ensures) (e .enum-told .given .1) (t .before .most .ensures) refl (λ e. absurd (omega (arith, e, t .if1 .left)))
+    (w .restore-levels .ensures) (e .enum-told .given .1) (t .before .most .ensures) (need .restoring-need .ensures) (λ e. absurd (omega (arith, e, t .if1 .left)))
 
 pub restored-line-spec : {M : Type 1} → statement M
 restored-line-spec =
@@ -98,11 +89,7 @@ restored-line-spec =
     enum-told
     slice-aggregate-result
     returns
-    add-length
-    sub-length
-    mul-length
-    add-length-2
-    sub-length-2
+    restoring-need-requires
     most-requires
     slice-aggregate-result-2
     slice-aggregate-result-3

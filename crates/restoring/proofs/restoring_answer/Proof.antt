@@ -7,14 +7,13 @@ use Rattle.numbers.specs.Tests.{key-above, other, cond-true, cond-false}
 use Rattle.packed.proofs.Levels.{enum}
 use Rattle.packed.specs.declared.Levels.the-variants.{Done, ScratchSize}
 use Rattle.packed.specs.Answers.{heldOf}
-use Rattle.packed.specs.Falls.{line-none, long-before}
 use Rattle.packed.specs.Lengths.{restoringLength}
-use Rattle.packed.specs.Tested.{stopped, went-on, held-done}
-use Rattle.packed.specs.Works.{Split}
+use Rattle.packed.specs.Tested.{stopped, went-on, held-done, first-line}
 use Rattle.restoring.specs.Restorings.{answerOf}
 use Rattle.restoring.proofs.restoring_answer.Statement.{statement}
 use Rattle.restoring.proofs.restoring_answer.Tie as tie
-use mathlib.Core.Path.{_≡_, _∙_, refl, sym}
+use mathlib.Core.Path.{_≡_, _∙_, refl, sym, ap}
+use Prim.Native.Nat.{ℕ, _≤_, _<_}
 use native.Mathlib.Omega.{arith}
 
 packed-answer-requires : tie.Need-packed-answer-requires
@@ -30,51 +29,49 @@ returns c = let r = c .before .packed-answer .result in stopped r _ (λ x. x) (c
 held : (c : tie.After-enum-told) → let a = c .before .before .before .args in heldOf (a .n) (a .f) (a .levels) (a .packed) ≡ Done
 held c = sym (c .before .before .packed-answer .ensures) ∙ c .enum-told .given .1
 
-all : (c : tie.After-enum-told) → let a = c .before .before .before .args in Split (a .n) (a .f) (a .levels)
-all c = let a = c .before .before .before .args in held-done (a .n) (a .f) (a .levels) (a .packed) (held c) .0
+restoring-need-requires : tie.Need-restoring-need-requires
+restoring-need-requires c κs = let a = c .before .before .before .args in first-line (held-done (a .n) (a .f) (a .levels) (a .packed) (held c) .0)
 
-add-need : tie.Need-add-need
-add-need c = omega (arith, all c .sound .limit, all c .sound .taps .most, all c .sound .taps .two)
+-- these tests, over plain variables
+module _ (n f levels p a b need : ℕ) (e : heldOf n f levels p ≡ Done) (q : need ≡ restoringLength n f) where
+  first-short : a < need → ScratchSize need a ≡ answerOf n f levels p a b
+  unfolding answerOf
+  first-short h = went-on _ _ e (ap (λ (k : ℕ). ScratchSize k a) q ∙ sym (cond-true (ltb a (restoringLength n f)) _ _ (lt-ltb a (restoringLength n f) (omega (arith, q, h)))))
 
-sub-need : tie.Need-sub-need
-sub-need c = omega (arith, all c .sound .limit, all c .sound .taps .most, all c .sound .taps .two)
+  second-short : need ≤ a → b < need → ScratchSize need b ≡ answerOf n f levels p a b
+  unfolding answerOf
+  second-short h k =
+      went-on _ _ e
+      (ap (λ (j : ℕ). ScratchSize j b) q
+      ∙ sym (cond-false (ltb a (restoringLength n f)) (ScratchSize (restoringLength n f) a) _ (le-ltb a (restoringLength n f) (omega (arith, q, h)))
+      ∙ cond-true (ltb b (restoringLength n f)) _ Done (lt-ltb b (restoringLength n f) (omega (arith, q, k)))))
 
-mul-need : tie.Need-mul-need
-mul-need c = omega (arith, all c .sound .limit, all c .sound .taps .most, all c .sound .taps .two)
-
-add-need-2 : tie.Need-add-need-2
-add-need-2 c = omega (arith, all c .sound .limit, all c .sound .taps .most, all c .sound .taps .two)
-
--- the first line is no shorter than f
-sub-need-2 : tie.Need-sub-need-2
-sub-need-2 c =
-    let a = c .before .before .before .args in
-    omega (arith, long-before (a .n) (a .f) 0 _ (all c .long) (omega arith) .1, line-none (a .n) (a .f), all c .sound .taps .two)
+  enough : need ≤ a → need ≤ b → Done ≡ answerOf n f levels p a b
+  unfolding answerOf
+  enough h k =
+      went-on _ _ e
+      (sym (cond-false (ltb a (restoringLength n f)) (ScratchSize (restoringLength n f) a) _ (le-ltb a (restoringLength n f) (omega (arith, q, h)))
+      ∙ cond-false (ltb b (restoringLength n f)) (ScratchSize (restoringLength n f) b) Done (le-ltb b (restoringLength n f) (omega (arith, q, k)))))
 
 returns-2 : tie.Need-returns-2
-unfolding answerOf
 returns-2 c =
-    let a = c .before .before .before .before .args in
-    let need = restoringLength (a .n) (a .f) in
-    went-on _ _ (held (c .before)) (sym (cond-true (ltb (a .first) need) (ScratchSize need (a .first)) _ (lt-ltb (a .first) need (omega (arith, c .if1 .taken)))))
+    let w = c .before in
+    let a = w .before .before .before .before .args in
+    first-short (a .n) (a .f) (a .levels) (a .packed) (a .first) (a .second) (w .restoring-need .result) (held (w .before)) (w .restoring-need .ensures) (omega (arith, c .if1 .taken))
 
 returns-3 : tie.Need-returns-3
-unfolding answerOf
 returns-3 c =
-    let a = c .before .before .before .before .before .args in
-    let need = restoringLength (a .n) (a .f) in
-    went-on _ _ (held (c .before .before))
-    (sym (cond-false (ltb (a .first) need) (ScratchSize need (a .first)) _ (le-ltb (a .first) need (omega (arith, c .before .if1 .left)))
-    ∙ cond-true (ltb (a .second) need) (ScratchSize need (a .second)) Done (lt-ltb (a .second) need (omega (arith, c .if2 .taken)))))
+    let w = c .before .before in
+    let a = w .before .before .before .before .args in
+    second-short (a .n) (a .f) (a .levels) (a .packed) (a .first) (a .second) (w .restoring-need .result) (held (w .before)) (w .restoring-need .ensures)
+    (omega (arith, c .before .if1 .left)) (omega (arith, c .if2 .taken))
 
 returns-4 : tie.Need-returns-4
-unfolding answerOf
 returns-4 c =
-    let a = c .before .before .before .before .before .args in
-    let need = restoringLength (a .n) (a .f) in
-    went-on _ _ (held (c .before .before))
-    (sym (cond-false (ltb (a .first) need) (ScratchSize need (a .first)) _ (le-ltb (a .first) need (omega (arith, c .before .if1 .left)))
-    ∙ cond-false (ltb (a .second) need) (ScratchSize need (a .second)) Done (le-ltb (a .second) need (omega (arith, c .if2 .left)))))
+    let w = c .before .before in
+    let a = w .before .before .before .before .args in
+    enough (a .n) (a .f) (a .levels) (a .packed) (a .first) (a .second) (w .restoring-need .result) (held (w .before)) (w .restoring-need .ensures)
+    (omega (arith, c .before .if1 .left)) (omega (arith, c .if2 .left))
 
 pub restoring-answer-spec : {M : Type 1} → statement M
-restoring-answer-spec = tie.close (tie.spec packed-answer-requires enum-told returns add-need sub-need mul-need add-need-2 sub-need-2 returns-2 returns-3 returns-4)
+restoring-answer-spec = tie.close (tie.spec packed-answer-requires enum-told returns restoring-need-requires returns-2 returns-3 returns-4)

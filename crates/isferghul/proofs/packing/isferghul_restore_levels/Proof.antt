@@ -1,12 +1,12 @@
 -- `isferghul_restore_levels` meets its contract: a refusal is told; else every test passed, and the work over arrays that the lists were copied to is over the lists.
 use Rattle.isferghul.specs.Pairs.{Paired}
 use Rattle.isferghul.specs.LevelCalls.{restoring-ready, restoring-lists, restoring-refused, restoring-done}
-use Rattle.packed.specs.Works.{Sound}
 use denote.Ref.{now}
 use lib.ListN.{length}
 use mathlib.Core.Path.{refl}
 use native.Mathlib.Omega.{arith}
 use borrow.Author.Needs.{needs}
+use Rattle.packed.specs.Tested.{first-line}
 use Rattle.isferghul.proofs.packing.isferghul_restore_levels.Statement.{statement}
 use Rattle.isferghul.proofs.packing.isferghul_restore_levels.Tie as tie
 
@@ -48,27 +48,16 @@ restore-requires c κs = let m = c .before .before in
     let a = t .before .before .before .before .before .before .before .before .before .args in
     restoring-ready (now (a .low)) (now (a .high)) (now (a .packed)) (a .n) (a .levels) (now (a .first)) (now (a .second)) (t .before .before .before .taps-of .ensures) (t .before .before .restoring-answer .ensures) (t .levels .ensures) (m .most .ensures) (e .if1 .left)
 
--- and their lengths
-sound : (e : tie.Else1) → Sound (e .before .before .before .before .before .before .before .before .before .before .args .n) (e .before .before .before .before .taps-of .result)
-sound e = let t = e .before in let a = t .before .before .before .before .before .before .before .before .before .args in restoring-ready (now (a .low)) (now (a .high)) (now (a .packed)) (a .n) (a .levels) (now (a .first)) (now (a .second)) (t .before .before .before .taps-of .ensures) (t .before .before .restoring-answer .ensures) (t .levels .ensures) refl (e .if1 .left) .sound
-
-add-length : tie.Need-add-length
-add-length c = let s = sound (c .before .before .before .before .before .before .before .before .before .before .before .before .before .before .before .before) in omega (arith, s .limit, s .taps .most)
-
-sub-length : tie.Need-sub-length
-sub-length c = let s = sound (c .before .before .before .before .before .before .before .before .before .before .before .before .before .before .before .before) in omega (arith, s .taps .two)
-
-mul-length : tie.Need-mul-length
-mul-length c = let s = sound (c .before .before .before .before .before .before .before .before .before .before .before .before .before .before .before .before) in omega (arith, s .limit, s .taps .most)
-
-add-length-2 : tie.Need-add-length-2
-add-length-2 c = let s = sound (c .before .before .before .before .before .before .before .before .before .before .before .before .before .before .before .before) in omega (arith, s .limit, s .taps .most)
-
-sub-length-2 : tie.Need-sub-length-2
-sub-length-2 c = search needs
-
 holder-of-requires : tie.Need-holder-of-requires
 holder-of-requires c κs = search needs
+
+restoring-need-requires : tie.Need-restoring-need-requires
+restoring-need-requires c κs =
+    let e = c .before .before .before .before .before .before .before .before .before .before .before .before .before .before .before .before .before in
+    let t = e .before in
+    let a = t .before .before .before .before .before .before .before .before .before .args in
+    let w = restoring-ready (now (a .low)) (now (a .high)) (now (a .packed)) (a .n) (a .levels) (now (a .first)) (now (a .second)) (t .before .before .before .taps-of .ensures) (t .before .before .restoring-answer .ensures) (t .levels .ensures) refl (e .if1 .left) in
+    first-line {levels = a .levels} (record { sound = w .packs .sound; long = w .packs .long })
 
 two-requires : tie.Need-two-requires
 two-requires c κs = search needs
@@ -80,12 +69,12 @@ same-length-2 : tie.Need-same-length-2
 same-length-2 c = search needs
 
 returns-2 : tie.Need-returns-2
-returns-2 c = let w = c .before .before .before .before .before .before .before in
+returns-2 c = let w = c .before .before .before .before .before .before .before .before in
     let m = w .before .before .before in
     let e = m .before .before .before .before .before .before .before .before .before in
     let t = e .before in
     restoring-done _ _ _ _ _ _ _ (t .before .before .before .taps-of .ensures) (t .before .before .restoring-answer .ensures) (t .levels .ensures) _ (e .if1 .left) (m .most .ensures) (m .before .before .before .before .before .before .before .copy-to .ensures) (m .before .before .before .before .copy-to2 .ensures)
-    (w .restore .ensures .0) (w .restore .ensures .1) (c .before .before .holder-of .ensures) refl (c .two .ensures)
+    (w .restore .ensures .0) (w .restore .ensures .1) (c .before .before .before .holder-of .ensures) (c .before .before .restoring-need .ensures) (c .two .ensures)
 
 pub isferghul-restore-levels-spec : {M : Type 1} → statement M
 isferghul-restore-levels-spec =
@@ -101,12 +90,8 @@ isferghul-restore-levels-spec =
     copy-to-requires-2
     most-requires
     restore-requires
-    add-length
-    sub-length
-    mul-length
-    add-length-2
-    sub-length-2
     holder-of-requires
+    restoring-need-requires
     two-requires
     same-length
     same-length-2

@@ -29,7 +29,7 @@ abbrev μ-loop : tie.MeasureT-loop
 lengths : (c : tie.In-loop Inv-loop μ-loop)
     → let l = c .before in
     let a = l .before .before .before .before .args in
-    Turn (length (now (a .line))) (a .f) (a .levels) (length (now (a .packed))) (length (now (a .scratch))) (l .loop .k) (l .loop .start) (l .loop .n) (pairs (l .loop .n) (a .f))
+    Turn (length (now (a .line))) (a .f) (length (now (a .packed))) (length (now (a .scratch))) (l .loop .k) (l .loop .start) (l .loop .n) (pairs (l .loop .n) (a .f))
 lengths c =
     let l = c .before in
     let s = l .before .before .before .before in
@@ -67,10 +67,10 @@ sub-n : tie.Need-sub-n Inv-loop μ-loop
 sub-n c = search needs
 
 add-end : tie.Need-add-end Inv-loop μ-loop
-add-end c = omega (arith, lengths (c .before .before .before .before .before) .inside, c .before .before .before .before .before .before .before .before .before .before .pre .filled)
+add-end c = omega (arith, lengths (c .before .before .before .before .before) .inside, c .before .before .before .before .before .before .before .before .before .before .pre .packs .filled)
 
 add-end-2 : tie.Need-add-end-2 Inv-loop μ-loop
-add-end-2 c = omega (arith, lengths (c .before .before .before .before .before) .inside, c .before .before .before .before .before .before .before .before .before .before .pre .filled)
+add-end-2 c = omega (arith, lengths (c .before .before .before .before .before) .inside, c .before .before .before .before .before .before .before .before .before .before .pre .packs .filled)
 
 mul-bands-beside : tie.Need-mul-bands-beside Inv-loop μ-loop
 mul-bands-beside c = omega (arith, lengths (c .before .before .before .before .before .before) .inside, c .before .before .before .before .before .before .before .loop .inv .3)
@@ -147,8 +147,8 @@ returns c =
     let i = l .loop .inv in
     let k = l .loop .k in
     let e : k ≡ a .levels = omega (arith, i .0, c .loop-test .left) in (
-      all-packed binary64 (now (a .low)) (now (a .high)) (a .f) (a .border) (now (a .line)) (a .levels) k (l .loop .start) (l .loop .n) e (s .pre .some)
-          (ended (length (now (a .line))) (a .f) (a .levels) k (l .loop .start) (l .loop .n) e (i .1) (i .2) ∙ sym (s .pre .filled) ∙ sym (i .3)) (i .5) (i .6),
+      all-packed binary64 (now (a .low)) (now (a .high)) (a .f) (a .border) (now (a .line)) (a .levels) k (l .loop .start) (l .loop .n) e (s .pre .packs .some)
+          (ended (length (now (a .line))) (a .f) (a .levels) k (l .loop .start) (l .loop .n) e (i .1) (i .2) ∙ sym (s .pre .packs .filled) ∙ sym (i .3)) (i .5) (i .6),
       i .7 ∙ ap (λ (j : ℕ). paddedLines binary64 (now (a .low)) (a .f) (a .border) (now (a .line)) j (now (a .scratch))) e,
     )
 

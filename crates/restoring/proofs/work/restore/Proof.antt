@@ -3,10 +3,10 @@ use borrow.Author.Needs.{needs}
 use Rattle.restoring.proofs.work.restore.Statement.{statement}
 use Rattle.restoring.proofs.work.restore.Tie as tie
 use Rattle.restoring.specs.Lines.{firstAfter, secondAfter}
-use Rattle.restoring.specs.Steps.{first-start, second-start, first-more, second-more, part-is, count-is, length-part, long-enough, turning, named, as-many, whole-length}
+use Rattle.restoring.specs.Steps.{first-start, second-start, first-more, second-more, long-enough, turning}
 use Rattle.restoring.specs.Works.{Restoring}
 use Rattle.packed.specs.Answers.{partAt}
-use Rattle.packed.specs.Follow.{inside}
+use Rattle.packed.specs.Follow.{inside, part-is, count-is, length-part, named, as-many, whole-length}
 use Rattle.packed.specs.Lengths.{lineAfter, levelStart, levelCount}
 use Prim.Native.Nat.{ℕ, _+_, _-_, _≤_, _<_}
 use lib.Ieee.{Float, binary64}
@@ -28,7 +28,7 @@ abbrev μ-loop : tie.MeasureT-loop
 found : (n f levels p a b level start count : ℕ) → Restoring n f levels p a b → level ≤ levels → start ≡ levelStart n f levels level → count ≡ levelCount n f levels level
     → start + count ≤ p
 found n f levels p a b level start count w h es ec =
-    omega (arith, inside n f levels level (w .sound .taps .two) (omega (arith, h)), whole-length w, es, ec)
+    omega (arith, inside n f levels level (w .packs .sound .taps .two) (omega (arith, h)), whole-length (w .packs), es, ec)
 
 deepest-in : (c : tie.After-part-of Inv-loop μ-loop) → let a = c .before .before .before .before .args in c .part-of .result .start + c .part-of .result .count ≤ length (now (a .packed))
 deepest-in c =
@@ -59,8 +59,8 @@ parts n f levels a b j packed start count from counted w h p q =
     record {
       deepest = d;
       detail = t;
-      deepest-length = ap length d ∙ length-part n f levels 0 packed (w .sound .taps .two) (omega arith) (whole-length w) ∙ ap (lineAfter n f) (as-many w);
-      detail-length = ap length t ∙ length-part n f levels (levels - j) packed (w .sound .taps .two) (omega arith) (whole-length w) ∙ count-is n f levels (levels - j) (omega (arith, h));
+      deepest-length = ap length d ∙ length-part n f levels 0 packed (w .packs .sound .taps .two) (omega arith) (whole-length (w .packs)) ∙ ap (lineAfter n f) (as-many (w .packs));
+      detail-length = ap length t ∙ length-part n f levels (levels - j) packed (w .packs .sound .taps .two) (omega arith) (whole-length (w .packs)) ∙ count-is n f levels (levels - j) (omega (arith, h));
     }
 
 at-most : {x y z : ℕ} → x ≡ y → y ≤ z → x ≤ z
@@ -79,7 +79,7 @@ these c =
     parts (a .n) (a .f) (a .levels) _ _ (l .loop .j) (now (a .packed)) _ _ _ _ (s .pre) (c .before .loop-test .taken) (d .part-of .ensures) (c .part-of2 .ensures)
 
 part-of-requires : tie.Need-part-of-requires Inv-loop μ-loop
-part-of-requires c κs = let s = c .before .before .before in let a = s .args in named (a .n) (a .f) (a .levels) _ _ _ 0 (s .pre) (omega arith)
+part-of-requires c κs = let s = c .before .before .before in named 0 (s .pre .packs) (omega arith)
 
 add-end : tie.Need-add-end Inv-loop μ-loop
 add-end c = omega (arith, deepest-in (c .before))
@@ -98,7 +98,7 @@ sub-part-of : tie.Need-sub-part-of Inv-loop μ-loop
 sub-part-of c = search needs
 
 part-of-requires-2 : tie.Need-part-of-requires-2 Inv-loop μ-loop
-part-of-requires-2 c κs = let s = c .before .before .before .before .before .before .before in let a = s .args in named (a .n) (a .f) (a .levels) _ _ _ (a .levels - c .before .loop .j) (s .pre) (omega arith)
+part-of-requires-2 c κs = let s = c .before .before .before .before .before .before .before in named (s .args .levels - c .before .loop .j) (s .pre .packs) (omega arith)
 
 add-to : tie.Need-add-to Inv-loop μ-loop
 add-to c = omega (arith, detail-in (c .before))

@@ -2,37 +2,12 @@
 use borrow.Author.Needs.{needs}
 use Rattle.synthesis.proofs.work.join.Statement.{statement}
 use Rattle.synthesis.proofs.work.join.Tie as tie
-use Prim.Native.Nat.{_-_, _/_, max, ℕ, _≤_}
-use Rattle.synthesis.specs.Works.{InnerPairs, Joinable, joinedPairs}
+use Prim.Native.Nat.{_-_}
 use Rattle.numbers.specs.Tests.{kept}
-use mathlib.Core.Path.{_≡_, _∙_, ap, refl, subst, sym}
+use mathlib.Core.Path.{_∙_, refl}
 use native.Mathlib.Omega.{arith}
-use Rattle.synthesis.specs.Joins.{joined-all, joined-more}
-use Rattle.synthesis.specs.Lines.{synthesised}
+use Rattle.synthesis.specs.Runs.{inner-pairs, still, three}
 use denote.Ref.{now}
-use lib.Ieee.{Float, binary64}
-use lib.ListN.{length}
-use mathlib.Core.List.{List}
-
-inner-pairs : (f a d o start end : ℕ) → Joinable f a d o → start ≡ (f - 2) / 2 → end ≡ max start (o / 2) → InnerPairs f a d o start end
-inner-pairs f a d o start end j s e = record {
-  some = record { all = j; rising = omega arith; last = omega (arith, j .ruled, j .two) };
-  before = omega (arith, j .two, j .even);
-  behind = λ h. omega arith;
-}
-
--- what holds of an output holds of one that is as long
-still : {f a d o o′ start end : ℕ} → InnerPairs f a d o start end → o′ ≡ o → InnerPairs f a d o′ start end
-still {f} {a} {d} {o} {o′} {start} {end} p e = subst (λ (k : ℕ). InnerPairs f a d k start end) (sym e) p
-
-three : (F : ℕ) (low high a d : List Float) (start end : ℕ) (out : List Float) {o₁ o₂ o₃ : List Float} → start ≤ end → end ≤ length a
-    → o₁ ≡ joinedPairs binary64 F low high a d 0 start out → o₂ ≡ joinedPairs binary64 F low high a d start end o₁ → o₃ ≡ joinedPairs binary64 F low high a d end (length a) o₂
-    → o₃ ≡ synthesised binary64 F low high a d out
-three F low high a d start end out h k e₁ e₂ e₃ =
-    e₃ ∙ ap (joinedPairs binary64 F low high a d end (length a))
-    (e₂ ∙ ap (joinedPairs binary64 F low high a d start end) e₁ ∙ joined-more binary64 F low high a d 0 start end out (omega arith) h)
-    ∙ joined-more binary64 F low high a d 0 end (length a) out (omega arith) k
-    ∙ joined-all binary64 F low high a d out
 
 sub-start : tie.Need-sub-start
 sub-start c = search needs
