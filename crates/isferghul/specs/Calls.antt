@@ -23,10 +23,10 @@ use Rattle.synthesis.specs.Tested.{joinable, done-alone as done-synthesis}
 use Rattle.synthesis.specs.Works.{Joinable}
 use Rattle.convolution.specs.declared.Convolution.{Convolution}
 use Rattle.convolution.specs.Convolutions as Convolutions
-use Rattle.isferghul.specs.Told.{Told}
-use Rattle.isferghul.specs.Borders.{borderOf, noBorder}
+use Rattle.telling.specs.Told.{Told}
+use Rattle.telling.specs.Borders.{borderOf, noBorder}
 use Rattle.isferghul.specs.Lines.{tapsOf, AnalysisTold, SynthesisTold, ConvolutionTold}
-use Rattle.isferghul.specs.Telling.{told-as, under, hidden, positive, left-alone, renamed}
+use Rattle.telling.specs.Telling.{told-as, under, hidden, positive, left-alone, renamed}
 use Rattle.isferghul.specs.Pairs.{Paired, listed, copied}
 
 -- ---- analysis

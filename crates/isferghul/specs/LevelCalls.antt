@@ -25,11 +25,11 @@ use Rattle.restoring.specs.Steps.{whole-front}
 use Rattle.restoring.specs.Taps.{first-same, second-same}
 use Rattle.restoring.specs.Tested.{restoring, length-restored}
 use Rattle.restoring.specs.Works.{Restoring}
-use Rattle.isferghul.specs.Told.{Told, carriedFrom}
-use Rattle.isferghul.specs.Borders.{borderOf, noBorder}
+use Rattle.telling.specs.Told.{Told, carriedFrom}
+use Rattle.telling.specs.Borders.{borderOf, noBorder}
 use Rattle.isferghul.specs.Lines.{tapsOf}
 use Rattle.isferghul.specs.Packing.{holder, valuesBack, LevelsTold, RestoringTold}
-use Rattle.isferghul.specs.Telling.{retold, told-as, under, hidden, positive, left-alone, renamed}
+use Rattle.telling.specs.Telling.{retold, told-as, under, hidden, positive, left-alone, renamed}
 use Rattle.isferghul.specs.Pairs.{Paired, listed, copied}
 
 -- ---- analysis

@@ -13,8 +13,8 @@ use Rattle.analysis.specs.Lines.{band, paddedInto}
 use Rattle.synthesis.specs.Syntheses as Syntheses
 use Rattle.synthesis.specs.Lines.{synthesised}
 use Rattle.convolution.specs.Convolutions as Convolutions
-use Rattle.isferghul.specs.Borders.{borderOf, numberUnder, valuesUnder}
-use Rattle.isferghul.specs.Told.{Told}
+use Rattle.telling.specs.Borders.{borderOf, numberUnder, valuesUnder}
+use Rattle.telling.specs.Told.{Told}
 
 -- how many taps lists of these lengths have in each; none where they are odd, empty, over 64 or unequal, so that an entry's tests refuse them by 12
 abbrev pub tapsOf : ℕ → ℕ → ℕ

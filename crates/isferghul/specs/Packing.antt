@@ -15,9 +15,9 @@ use Rattle.levels.specs.Analyses as Analyses
 use Rattle.levels.specs.Lines.{packedLine, paddedLines}
 use Rattle.restoring.specs.Restorings as Restorings
 use Rattle.restoring.specs.Lines.{firstAfter, secondAfter}
-use Rattle.isferghul.specs.Borders.{borderOf, numberUnder, valuesUnder}
+use Rattle.telling.specs.Borders.{borderOf, numberUnder, valuesUnder}
 use Rattle.isferghul.specs.Lines.{tapsOf}
-use Rattle.isferghul.specs.Told.{Told}
+use Rattle.telling.specs.Told.{Told}
 
 pub record LevelsTold (border : ℕ) (low high line : List Float) (levels : ℕ) (packed scratch : List Float) (words : List ℕ)
     (r : ℕ) (packed′ scratch′ : List Float) (words′ : List ℕ) : Type 0 where

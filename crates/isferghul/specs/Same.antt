@@ -37,11 +37,11 @@ use Rattle.restoring.specs.Restorings as Restorings
 use Rattle.restoring.specs.Lines.{firstAfter, secondAfter}
 use Rattle.restoring.specs.Taps.{first-same, second-same}
 use Rattle.restoring.specs.Tested.{restoring}
-use Rattle.isferghul.specs.Told.{Told}
-use Rattle.isferghul.specs.Borders.{borderOf, noBorder}
+use Rattle.telling.specs.Told.{Told}
+use Rattle.telling.specs.Borders.{borderOf, noBorder}
 use Rattle.isferghul.specs.Lines.{tapsOf, MirrorTold, AnalysisTold, SynthesisTold}
 use Rattle.isferghul.specs.Packing.{valuesBack, LevelsTold, RestoringTold}
-use Rattle.isferghul.specs.Telling.{retold, told-as, under}
+use Rattle.telling.specs.Telling.{retold, told-as, under}
 
 -- ---- a bank of two lists
 module _ {low high : List Float} {b : Border} {making : Making} {bank : Bank} (m : Banks.BankMade low high b making bank) where

@@ -5,7 +5,7 @@ use lib.IntN.{ℤ}
 use Rattle.bank.specs.Lengths.{pairs, paddedLength, lineLength}
 use Rattle.bank.specs.Sizes as Size
 use Rattle.convolution.specs.Sizes as Scratch
-use Rattle.isferghul.specs.Told.{Told}
+use Rattle.telling.specs.Told.{Told}
 
 abbrev pub BandLengthTold : ℕ → ℕ → List ℕ → ℕ → List ℕ → Type 0
 BandLengthTold n f words r words′ = let a = Size.ofSamples n f (pairs n f) in Told (Size.numberOf a) (Size.valuesOf a) words r words′

@@ -5,9 +5,9 @@ use Prim.Native.Nat.{ℕ}
 use lib.IntN.{ℤ}
 use lib.Ieee.{Float}
 use Rattle.packed.specs.declared.parts.Reading.{Reading}
-use Rattle.isferghul.specs.Told.{Told}
+use Rattle.telling.specs.Told.{Told}
 use Rattle.isferghul.specs.Lines.{MirrorTold, AnalysisTold, SynthesisTold, ConvolutionTold}
-use Rattle.isferghul.specs.Levels.{ReadingTold}
+use Rattle.telling.specs.Readings.{ReadingTold}
 use Rattle.isferghul.specs.Packing.{LevelsTold, RestoringTold}
 
 -- of the size questions and of a level's part, each of which promises what is told

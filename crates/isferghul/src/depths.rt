@@ -1,7 +1,7 @@
 // The lengths of levels, and where each stands in the packed buffer, for C.
 ghost use Rattle.isferghul.specs.Levels.{PackedLengthTold, LevelsScratchTold, RestoringLengthTold, MostLevelsTold, LevelPartTold};
-use crate::told;
 use packed::sizes;
+use telling::told;
 
 #[no_mangle]
 pub extern "C" fn isferghul_packed_length(

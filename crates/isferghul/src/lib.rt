@@ -1,9 +1,7 @@
 // The library for C: numbers and slices in, document 01's number back, and what an answer carries in lent words.
-pub mod borders;
 pub mod depths;
 pub mod lines;
 pub mod packing;
 pub mod places;
 pub mod sizes;
 pub mod taps;
-pub mod told;

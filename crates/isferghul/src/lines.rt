@@ -1,15 +1,15 @@
 // One line, for C: the entries' tests and work over the caller's own taps, so that no bank is made and copied in a call.
 ghost use Rattle.isferghul.specs.Lines.{AnalysisTold, SynthesisTold, ConvolutionTold};
-use crate::borders::border_of;
-use crate::borders::no_border;
 use crate::taps::taps_of;
-use crate::told;
 use analysis::analysis_answer;
 use analysis::work::line_bands;
 use border::pad::copy_to;
 use convolution::convolve;
 use synthesis::synthesis_answer;
 use synthesis::work::join;
+use telling::borders::border_of;
+use telling::borders::no_border;
+use telling::told;
 
 #[no_mangle]
 pub extern "C" fn isferghul_analyse(

@@ -1,10 +1,7 @@
 // A line over levels and back, for C: the entries' tests and work over the caller's own taps, so that no bank is made and copied in a call.
 ghost use mathlib.Core.Path.{_≡_};
 ghost use Rattle.isferghul.specs.Packing.{holder, LevelsTold, RestoringTold};
-use crate::borders::border_of;
-use crate::borders::no_border;
 use crate::taps::taps_of;
-use crate::told;
 use border::pad::copy_to;
 use levels::levels_answer;
 use levels::work::split;
@@ -12,6 +9,9 @@ use numbers::most;
 use packed::depth::restoring_need;
 use restoring::restoring_answer;
 use restoring::work::restore;
+use telling::borders::border_of;
+use telling::borders::no_border;
+use telling::told;
 
 #[no_mangle]
 pub extern "C" fn isferghul_analyse_levels(

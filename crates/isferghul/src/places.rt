@@ -1,7 +1,7 @@
 // One place of the packed buffer, for C.
 ghost use Rattle.isferghul.specs.Levels.{PlaceTold};
-use crate::told;
 use packed::parts;
+use telling::told;
 
 #[no_mangle]
 pub extern "C" fn isferghul_read_place(

@@ -1,8 +1,8 @@
 // The lengths to lend, for C.
 ghost use Rattle.isferghul.specs.Sizes.{BandLengthTold, LineLengthTold, AnalysisScratchTold, ConvolutionScratchTold};
-use crate::told;
 use bank::sizes;
 use convolution::pads;
+use telling::told;
 
 #[no_mangle]
 pub extern "C" fn isferghul_band_length(n: usize, f: usize, carried: &mut [usize; 2]) -> u64

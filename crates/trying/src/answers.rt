@@ -6,8 +6,8 @@ use bank::making::Making;
 use bank::sizes::Size;
 use convolution::Convolution;
 use convolution::pads::Scratch;
-use isferghul::told;
 use synthesis::Synthesis;
+use telling::told;
 
 // What a word holds that carries nothing; no length is as great.
 const NOTHING: usize = 18446744073709551615;

@@ -1,7 +1,7 @@
 -- `isferghul_restoring_length` meets its contract: it tells what the entry answers.
 use mathlib.Core.Path.{sym}
 use Rattle.packed.specs.Answers.{sizeNumber, sizeValues}
-use Rattle.isferghul.specs.Telling.{told-as}
+use Rattle.telling.specs.Telling.{told-as}
 use borrow.Author.Needs.{needs}
 use Rattle.isferghul.proofs.depths.isferghul_restoring_length.Statement.{statement}
 use Rattle.isferghul.proofs.depths.isferghul_restoring_length.Tie as tie

@@ -1,5 +1,5 @@
 -- `isferghul_band_length` meets its contract: it tells what the entry answers.
-use Rattle.isferghul.specs.Telling.{told-as}
+use Rattle.telling.specs.Telling.{told-as}
 use Rattle.bank.specs.Sizes.{numberOf, valuesOf}
 use mathlib.Core.Path.{sym}
 use borrow.Author.Needs.{needs}

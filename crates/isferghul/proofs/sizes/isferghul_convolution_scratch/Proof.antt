@@ -1,5 +1,5 @@
 -- `isferghul_convolution_scratch` meets its contract: it tells what the entry answers.
-use Rattle.isferghul.specs.Telling.{told-as}
+use Rattle.telling.specs.Telling.{told-as}
 use Rattle.convolution.specs.Places.{back}
 use Rattle.convolution.specs.Sizes.{numberOf, valuesOf, sizeOf}
 use mathlib.Core.Path.{sym, ap, _∙_}

@@ -1,0 +1,5 @@
+-- How answers are told to C. Definitions: Told, Readings, Borders. Laws: Telling.
+pub mod Told
+pub mod Readings
+pub mod Borders
+pub mod Telling
