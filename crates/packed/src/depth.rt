@@ -59,7 +59,7 @@ pub fn restoring_need(n: usize, f: usize) -> usize
     2 * m + 2 - f
 }
 
-// Where a part of it begins, and how many numbers it has.
+// Where a part of the packed buffer begins, and how many numbers it has.
 pub struct Part {
     pub start: usize,
     pub count: usize,
