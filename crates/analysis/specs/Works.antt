@@ -1,9 +1,10 @@
 -- What the functions that entries share ask for, and what they leave of a part of the work. Definitions only.
 use mathlib.Core.Path.{_≡_}
-use mathlib.Core.List.{List}
-use Prim.Native.Nat.{ℕ, _+_, _*_, _≤_}
+use mathlib.Core.List.{List, _++_}
+use Prim.Native.Nat.{ℕ, _+_, _-_, _*_, _≤_}
+use lib.ListN.{take, drop}
 use lib.Ieee.{Float, Format}
-use Rattle.numbers.specs.Words.{at}
+use Rattle.numbers.specs.Words.{at, tab, placed}
 use Rattle.bank.specs.Lengths.{pairs, paddedLength, Analysable}
 use Rattle.analysis.specs.Sums.{dot}
 
@@ -32,6 +33,19 @@ pub record Beside (f padded both m : ℕ) : Type 0 where
   pub most : f ≤ 64
   pub filled : both ≡ m + m
   pub within : 2 * m + f ≤ padded + 2
+
+-- a padded line of m pairs in a list of s from `from` on, and both bands before it from `to` on
+pub record Inside (f s from to m : ℕ) : Type 0 where
+  pub two : 2 ≤ f
+  pub most : f ≤ 64
+  pub before : to + (m + m) ≤ from
+  pub within : from + (2 * m + f - 2) ≤ s
+
+-- that list with both bands in place, the approximations before the details, and the rest as it was
+abbrev pub bothPlaced : Format → List Float → List Float → ℕ → ℕ → ℕ → ℕ → List Float → List Float
+bothPlaced g low high F from to m x =
+    let line = take (2 * m + F - 2) (drop from x) in
+    placed (at (tab (bandOf g low F line) m ++ tab (bandOf g high F line) m)) to (m + m) x
 
 -- f taps and a line of n to be padded, and a scratch of s
 pub record Padding (f n s : ℕ) : Type 0 where

@@ -6,7 +6,7 @@ ghost use lib.ListN.{length};
 ghost use lib.Ieee.{binary64, add, mul};
 ghost use Rattle.numbers.specs.Words.{tab};
 ghost use Rattle.analysis.specs.Lines.{band, paddedInto};
-ghost use Rattle.analysis.specs.Works.{tapSum, bandOf, Placeable, Bandable, Beside, Padding, Analysing};
+ghost use Rattle.analysis.specs.Works.{tapSum, bandOf, bothPlaced, Placeable, Bandable, Beside, Inside, Padding, Analysing};
 use border::Border;
 use border::pad::pad;
 
@@ -82,6 +82,29 @@ pub fn bands_beside(
         let p = place(low, high, f, padded, 2 * i);
         both[i] = p.detail;
         both[m + i] = p.approx;
+        i += 1;
+    }
+}
+
+// The same where the padded line lies in the buffer that takes the bands, from `from` on: the approximations go to it from `to` on, the details behind them.
+pub fn bands_within(
+    low: &[f64; 64],
+    high: &[f64; 64],
+    f: usize,
+    s: &mut [f64],
+    from: usize,
+    to: usize,
+    m: usize,
+)
+    requires { ⌜ Inside f (length (now s)) from to m ⌝ }
+    ensures { λ _. ⌜ now (s .exit) ≡ bothPlaced binary64 (now (low .entry)) (now (high .entry)) f from to m (now (s .entry)) ⌝ }
+{
+    let end = from + (2 * m + f - 2);
+    let mut i = 0usize;
+    while i < m {
+        let p = place(low, high, f, &s[from..end], 2 * i);
+        s[to + i] = p.approx;
+        s[to + m + i] = p.detail;
         i += 1;
     }
 }

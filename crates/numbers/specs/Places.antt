@@ -7,7 +7,7 @@ use native.Mathlib.Nat.{le-of-suc-le-suc, not-suc-le-zero}
 use native.Mathlib.Decide.{decLt}
 use native.Mathlib.Omega.{arith}
 use lib.ListN.{length, getD, take, drop, length-drop, length-take, List·getD-append}
-use lib.Seq.{ext-getD, length-take-le, getD-take, getD-drop, drop-drop, getD-append-add}
+use lib.Seq.{ext-getD, length-take-le, getD-take, getD-drop, drop-drop, getD-append-add, take-at, drop-at}
 use borrow.Rule.Slice.PartMut.{putMid, mid-len, same-len-mid}
 use Rattle.numbers.specs.Words.{tab, written, placed}
 use Rattle.numbers.specs.Write.{length-tab, getD-tab, length-placed, drop-placed, getD-placed-before, getD-placed-behind, drop-written, take-written}
@@ -103,6 +103,28 @@ module _ {A : Type 0} where
         ∙ getD-drop (e - a) (drop a x) r d
         ∙ getD-drop a x ((e - a) + r) d
         ∙ ap (λ (n : ℕ). getD x n d) u
+
+    -- the same by parts: what lies before, the part itself, and what lies behind
+    pub take-lent : (n : ℕ) → n ≤ a → take n (putMid a (e - a) x ys) ≡ take n x
+    take-lent n l = part-ext d 0 n (putMid a (e - a) x ys) x lent-length (λ j u v. lent-before j (omega arith))
+
+    pub part-lent : take (e - a) (drop a (putMid a (e - a) x ys)) ≡ ys
+    part-lent = ap (take (e - a)) (drop-at (take a x) (ys ++ drop (e - a) (drop a x)) a front) ∙ take-at ys (drop (e - a) (drop a x)) (e - a) q
+
+    pub drop-lent : drop e (putMid a (e - a) x ys) ≡ drop e x
+    drop-lent =
+        ext-getD d (drop e (putMid a (e - a) x ys)) (drop e x) (length-drop e (putMid a (e - a) x ys) ∙ ap (λ (n : ℕ). n - e) lent-length ∙ sym (length-drop e x))
+        (λ j u. getD-drop e (putMid a (e - a) x ys) j d ∙ lent-behind (e + j) (omega arith) ∙ sym (getD-drop e x j d))
+
+  -- lists with one rest have one beyond it too
+  pub drop-further : (a b : ℕ) (x y : List A) → a ≤ b → drop a x ≡ drop a y → drop b x ≡ drop b y
+  drop-further a b x y h e =
+      let k : a + (b - a) ≡ b = omega arith in
+      ap (λ (n : ℕ). drop n x) (sym k) ∙ sym (drop-drop (b - a) a x) ∙ ap (drop (b - a)) e ∙ drop-drop (b - a) a y ∙ ap (λ (n : ℕ). drop n y) k
+
+  -- lists with one front have one place before its end
+  pub front-at : (d : A) (n : ℕ) (x y : List A) → take n x ≡ take n y → (j : ℕ) → j < n → getD x j d ≡ getD y j d
+  front-at d n x y e j h = sym (getD-take n x j d h) ∙ ap (λ (l : List A). getD l j d) e ∙ getD-take n y j d h
 
   -- tables by two rules that agree
   pub tab-same : (g h : ℕ → A) (n : ℕ) → ((i : ℕ) → i < n → g i ≡ h i) → tab g n ≡ tab h n

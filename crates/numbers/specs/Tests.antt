@@ -85,3 +85,20 @@ renewed new old e q = q ∙ ap (λ (k : ℕ). whenDone k new old) e
 pub kept : {A : Type 0} (number : ℕ) → 0 < number → (new old : A) → old ≡ whenDone number new old
 kept zero h new old = absurd (omega arith)
 kept (suc number) h new old = refl
+
+-- ---- tests that follow others, of answers with their numbers: the others' refusal, or where those are done what comes then
+module _ {A : Type 0} (number : A → ℕ) {done : A} where
+  -- by another name of the others' answer, which is a refusal
+  pub stopped-by : {B : Type 0} → ((r : A) → number r ≡ 0 → r ≡ done) → {x : A} (a : A) (new : B) (old : A → B) → a ≡ x → (a ≡ done → ⊥) → old a ≡ whenDone (number x) new (old x)
+  stopped-by alone a new old e n = kept (number a) (refused number alone a n) new (old a) ∙ ap (λ (b : A). whenDone (number b) new (old b)) e
+
+  pub went-on-by : {B : Type 0} → number done ≡ 0 → {x : A} {y : B} (new old : B) → x ≡ done → y ≡ new → y ≡ whenDone (number x) new old
+  went-on-by z new old e q = q ∙ sym (ap (λ (k : ℕ). whenDone k new old) (ap number e ∙ z))
+
+  -- both are done where the second is after the first
+  pub both-done-by : ((r : A) → number r ≡ 0 → r ≡ done) → number done ≡ 0 → (a b : A) → whenDone (number a) b a ≡ done → (a ≡ done) × (b ≡ done)
+  both-done-by alone z a b e = go (number a) refl e
+    where
+      go : (k : ℕ) → number a ≡ k → whenDone k b a ≡ done → (a ≡ done) × (b ≡ done)
+      go zero q r = (alone a q, r)
+      go (suc k) q r = let w = ap number r in absurd (omega (arith, w, q, z))

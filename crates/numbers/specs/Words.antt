@@ -10,6 +10,10 @@ use lib.Ieee.{Float, fin, nan}
 abbrev pub longest : ℕ
 longest = 1048576
 
+-- the most numbers of a plane, whose sides are lines
+abbrev pub largest : ℕ
+largest = 16777216
+
 -- +0
 abbrev pub plusZero : Float
 plusZero = fin false 0 (pos 0)

@@ -5,6 +5,9 @@ ghost use Prim.Native.Nat.{_-_, min, max};
 // The most samples of a line and the most numbers of a band that is given.
 pub const LONGEST: usize = 1048576;
 
+// The most numbers of a plane, whose sides are lines.
+pub const LARGEST: usize = 16777216;
+
 // a - b, or 0 where b is more.
 pub fn less(a: usize, b: usize) -> usize
     ensures { λ r. ⌜ r ≡ a - b ⌝ }

@@ -10,7 +10,7 @@ use lib.ListN.{length, take, drop}
 use lib.Ieee.{Float}
 use mathlib.Core.List.{List, []}
 use Rattle.numbers.specs.Words.{longest, whenDone}
-use Rattle.numbers.specs.Tests.{passed, refused, kept}
+use Rattle.numbers.specs.Tests.{passed, refused, kept, stopped-by, went-on-by, both-done-by}
 use Rattle.bank.specs.Lengths.{badTaps, pairs, Analysable}
 use Rattle.bank.specs.Tested.{good-taps}
 use Rattle.packed.specs.declared.Levels.{Levels}
@@ -36,11 +36,7 @@ done-alone Taps e = absurd (omega arith)
 
 -- both tests are done where the second is after the first
 pub both-done : (a b : Levels) → andThen a b ≡ Done → (a ≡ Done) × (b ≡ Done)
-both-done a b e = go (numberOf a) refl e
-  where
-    go : (k : ℕ) → numberOf a ≡ k → whenDone k b a ≡ Done → (a ≡ Done) × (b ≡ Done)
-    go zero q r = (done-alone a q, r)
-    go (suc k) q r = let z = ap numberOf r in absurd (omega (arith, z, q))
+both-done = both-done-by numberOf done-alone refl
 
 -- 1 and 9 are refusals
 short-refused : (n f : ℕ) (t : Bool) → 0 < numberOf (cond t BufferWasTooSmallForLevel (MinFilterSize n f))
@@ -72,10 +68,10 @@ held-done n f levels p e =
 
 -- ---- what follows tests by another name of their answer: their refusal, or where they are done what comes then
 pub stopped : {A : Type 0} {x : Levels} (a : Levels) (new : A) (old : Levels → A) → a ≡ x → (a ≡ Done → ⊥) → old a ≡ whenDone (numberOf x) new (old x)
-stopped a new old e n = kept (numberOf a) (refused numberOf done-alone a n) new (old a) ∙ ap (λ (b : Levels). whenDone (numberOf b) new (old b)) e
+stopped = stopped-by numberOf done-alone
 
 pub went-on : {A : Type 0} {x : Levels} {y : A} (new old : A) → x ≡ Done → y ≡ new → y ≡ whenDone (numberOf x) new old
-went-on new old e q = q ∙ sym (ap (λ (b : Levels). whenDone (numberOf b) new old) e)
+went-on = went-on-by numberOf refl
 
 -- ---- what going down finds
 -- where each level has a line to split, all of them are gone down

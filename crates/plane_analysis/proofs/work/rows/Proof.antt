@@ -1,0 +1,195 @@
+-- `plane_analysis::work::rows` meets its contract: each turn is one row more of the table.
+use borrow.Author.Needs.{needs}
+use borrow.Rule.Slice.PartMut.{mid-len, same-len-mid}
+use Prim.Native.Nat.{ℕ, _+_, _-_, _*_, _≤_, _<_}
+use native.Mathlib.Omega.{arith}
+use mathlib.Core.Path.{_≡_, refl, sym, ap, subst, _∙_}
+use mathlib.Core.List.{List}
+use denote.Ref.{now}
+use lib.ListN.{length, take, drop}
+use lib.Ieee.{Float, binary64}
+use Rattle.bank.specs.Lengths.{Analysable, pairs, paddedLength}
+use Rattle.tables.specs.Stored.{line-end, stored-none}
+use Rattle.plane_analysis.specs.Works.{Rowing, Rowed}
+use Rattle.plane_analysis.specs.Steps.{rowed-none, rowed-next}
+use Rattle.plane_analysis.proofs.work.rows.Statement.{statement}
+use Rattle.plane_analysis.proofs.work.rows.Tie as tie
+
+abbrev Inv-loop : tie.InvT-loop
+Inv-loop low high f border plane width height m start scratch₀ end r₀ scratch r =
+    (r ≤ height) × Rowed binary64 low high f border plane width r m (start + paddedLength width f) scratch₀ scratch
+
+abbrev μ-loop : tie.MeasureT-loop
+μ-loop low high f border plane width height m start scratch₀ end r₀ scratch r = height - r
+
+-- a turn's lengths: the row lies in the plane, its bands before the padded line, and that in the scratch
+record Turn (f w h m p s start r : ℕ) : Type 0 where
+  pub row : r * w + w ≤ p
+  pub made : r * (m + m) + (m + m) ≤ start
+  pub room : start + (2 * m + f - 2) ≤ s
+  pub two : 2 ≤ f
+
+turn : (f w h m p s start r : ℕ) → Rowing f w h m p s start → r < h → Turn f w h m p s start r
+turn f w h m p s start r a l = record {
+  row = omega (arith, line-end w l, a .filled);
+  made = omega (arith, line-end (m + m) l, a .before);
+  room = omega (arith, a .room, a .many);
+  two = a .ready .taps .two;
+}
+
+lengths : (c : tie.In-loop Inv-loop μ-loop)
+    → let s = c .before .before .before .before in
+    let a = s .args in
+    Turn (a .f) (a .width) (a .height) (a .m) (length (now (a .plane))) (length (now (a .scratch))) (a .start) (c .before .loop .r)
+lengths c = let s = c .before .before .before .before in let a = s .args in turn (a .f) (a .width) (a .height) (a .m) _ _ (a .start) (c .before .loop .r) (s .pre) (c .loop-test .taken)
+
+mul-end : tie.Need-mul-end Inv-loop μ-loop
+mul-end c = let s = c .before .before in omega (arith, s .pre .room, s .pre .many, s .pre .ready .taps .two)
+
+add-end : tie.Need-add-end Inv-loop μ-loop
+add-end c = let s = c .before .before in omega (arith, s .pre .room, s .pre .many, s .pre .ready .taps .two)
+
+sub-end : tie.Need-sub-end Inv-loop μ-loop
+sub-end c = let s = c .before .before in omega (arith, s .pre .ready .taps .two)
+
+add-end-2 : tie.Need-add-end-2 Inv-loop μ-loop
+add-end-2 c = let s = c .before .before in omega (arith, s .pre .room, s .pre .many)
+
+loop-holds : tie.Need-loop-holds Inv-loop μ-loop
+loop-holds c = let a = c .before .before .args in (search needs, rowed-none binary64 (now (a .low)) (now (a .high)) (a .f) (a .border) (now (a .plane)) (a .width) (a .height) (a .m) (c .before .before .pre .many) (c .before .before .pre .filled) _ (now (a .scratch)))
+
+mul-from : tie.Need-mul-from Inv-loop μ-loop
+mul-from c = omega (arith, lengths c .row)
+
+add-to : tie.Need-add-to Inv-loop μ-loop
+add-to c = omega (arith, lengths c .row)
+
+mul-pad-line : tie.Need-mul-pad-line Inv-loop μ-loop
+mul-pad-line c = omega (arith, lengths c .row)
+
+sub-pad-line : tie.Need-sub-pad-line Inv-loop μ-loop
+sub-pad-line c = search needs
+
+part-pad-line-start : tie.Need-part-pad-line-start Inv-loop μ-loop
+part-pad-line-start c = search needs
+
+part-pad-line-end : tie.Need-part-pad-line-end Inv-loop μ-loop
+part-pad-line-end c = omega (arith, lengths c .row)
+
+mul-pad-line-2 : tie.Need-mul-pad-line-2 Inv-loop μ-loop
+mul-pad-line-2 c = omega (arith, lengths (c .before) .room, c .before .before .loop .inv .1 .long)
+
+sub-pad-line-2 : tie.Need-sub-pad-line-2 Inv-loop μ-loop
+sub-pad-line-2 c = search needs
+
+part-pad-line-start-2 : tie.Need-part-pad-line-start-2 Inv-loop μ-loop
+part-pad-line-start-2 c = search needs
+
+part-pad-line-end-2 : tie.Need-part-pad-line-end-2 Inv-loop μ-loop
+part-pad-line-end-2 c = omega (arith, lengths (c .before) .room, c .before .before .loop .inv .1 .long)
+
+pad-line-requires : tie.Need-pad-line-requires Inv-loop μ-loop
+pad-line-requires c κs =
+    let w = c .before .before in
+    let l = w .before in
+    let s = l .before .before .before in
+    let a = s .args in
+    let t = lengths w in
+    let from = l .loop .r * a .width in
+    let line = mid-len from (from + a .width) (now (a .plane)) (t .row) in
+    let rest = mid-len (a .start) (a .start + (2 * a .m + a .f - 2)) (l .loop .scratch) (omega (arith, t .room, l .loop .inv .1 .long)) in
+    record {
+      ready = record { taps = s .pre .ready .taps; limit = omega (arith, line, s .pre .ready .limit); enough = omega (arith, line, s .pre .ready .enough) };
+      room = omega (arith, line, rest, s .pre .many);
+    }
+
+add-bands-within : tie.Need-add-bands-within Inv-loop μ-loop
+add-bands-within c = search needs
+
+mul-bands-within : tie.Need-mul-bands-within Inv-loop μ-loop
+mul-bands-within c = omega (arith, lengths (c .before .before .before .before .before .before) .made)
+
+bands-within-requires : tie.Need-bands-within-requires Inv-loop μ-loop
+bands-within-requires c κs =
+    let p = c .before .before .before in
+    let w = p .before .before .before in
+    let l = w .before in
+    let s = l .before .before .before in
+    let a = s .args in
+    let t = lengths w in
+    record {
+      two = t .two;
+      most = s .pre .ready .taps .most;
+      before = t .made;
+      within = omega (arith, t .room, l .loop .inv .1 .long, same-len-mid (a .start) (a .start + (2 * a .m + a .f - 2) - a .start) (l .loop .scratch) (p .pad-line .last .1 .1 .1 .0) (p .pad-line .kept .1 .1 .1 .0));
+    }
+
+add-r : tie.Need-add-r Inv-loop μ-loop
+add-r c = search needs
+
+loop-less : tie.Need-loop-less Inv-loop μ-loop
+loop-less c = omega (arith, c .before .before .before .before .before .before .before .before .before .loop-test .taken)
+
+loop-again : tie.Need-loop-again Inv-loop μ-loop
+loop-again c =
+    let q = c .before .before in
+    let p = q .before .before .before .before in
+    let w = p .before .before .before in
+    let l = w .before in
+    let s = l .before .before .before in
+    let a = s .args in
+    let t = lengths w in
+    let r = l .loop .r in
+    let from = r * a .width in
+    let end = a .start + (2 * a .m + a .f - 2) in
+    let e : a .start + paddedLength (a .width) (a .f) ≡ end = omega (arith, s .pre .many) in (
+      omega (arith, w .loop-test .taken),
+      subst (λ (n : ℕ). Rowed binary64 (now (a .low)) (now (a .high)) (a .f) (a .border) (now (a .plane)) (a .width) (r + 1) (a .m) n (now (a .scratch)) (q .bands-within .last .1 .1 .1 .0)) (sym e)
+          (rowed-next binary64 (now (a .low)) (now (a .high)) (a .f) (a .border) (now (a .plane)) (a .width) (a .height) (a .m) (s .pre .many) (s .pre .filled)
+          r (a .start) end (now (a .scratch)) (l .loop .scratch) (p .pad-line .last .1 .1 .1 .0) (q .bands-within .last .1 .1 .1 .0) _ _ (w .loop-test .taken) (t .two) refl (s .pre .before) (t .room)
+          (subst (λ (n : ℕ). Rowed binary64 (now (a .low)) (now (a .high)) (a .f) (a .border) (now (a .plane)) (a .width) r (a .m) n (now (a .scratch)) (l .loop .scratch)) e (l .loop .inv .1))
+          (ap (λ (n : ℕ). take n (drop from (now (a .plane)))) (let z : from + a .width - from ≡ a .width = omega arith in z))
+          (mid-len (a .start) end (l .loop .scratch) (omega (arith, t .room, l .loop .inv .1 .long)))
+          (p .pad-line .ensures) (q .bands-within .ensures)),
+    )
+
+same-length : tie.Need-same-length Inv-loop μ-loop
+same-length c = c .before .loop .inv .1 .long
+
+returns : tie.Need-returns Inv-loop μ-loop
+returns c =
+    let l = c .before in
+    let a = l .before .before .before .args in
+    subst (λ (r : ℕ). Rowed binary64 (now (a .low)) (now (a .high)) (a .f) (a .border) (now (a .plane)) (a .width) r (a .m) (a .start + paddedLength (a .width) (a .f)) (now (a .scratch)) (l .loop .scratch))
+    (let z : l .loop .r ≡ a .height = omega (arith, l .loop .inv .0, c .loop-test .left) in z) (l .loop .inv .1)
+
+pub rows-spec : {M : Type 1} → statement M
+rows-spec =
+    tie.close
+    (tie.spec
+    Inv-loop
+    μ-loop
+    mul-end
+    add-end
+    sub-end
+    add-end-2
+    loop-holds
+    mul-from
+    add-to
+    mul-pad-line
+    sub-pad-line
+    part-pad-line-start
+    part-pad-line-end
+    mul-pad-line-2
+    sub-pad-line-2
+    part-pad-line-start-2
+    part-pad-line-end-2
+    pad-line-requires
+    add-bands-within
+    mul-bands-within
+    bands-within-requires
+    add-r
+    loop-less
+    loop-again
+    same-length
+    returns)

@@ -1,0 +1,75 @@
+// Analysis of a plane: an upper crate over the line filter's promises.
+pub mod work;
+
+ghost use mathlib.Core.Path.{_≡_};
+ghost use Rattle.plane_analysis.specs.Analyses.{answerOf, Analysed};
+use crate::work::split_plane;
+use bank::Bank;
+use planes::Planes;
+use planes::bands_answer;
+use planes::held_answer;
+use planes::sizes::band_need;
+
+// The tests, on lengths alone.
+pub fn plane_analysis_answer(
+    width: usize,
+    height: usize,
+    f: usize,
+    plane: usize,
+    scratch: usize,
+    ll: usize,
+    lh: usize,
+    hl: usize,
+    hh: usize,
+) -> Planes
+    ensures { λ r. ⌜ r ≡ answerOf width height f plane scratch ll lh hl hh ⌝ }
+{
+    let answer = held_answer(width, height, f, plane, scratch);
+    let Planes::Done = answer else {
+        return answer;
+    };
+    if width < f {
+        return Planes::MinFilterSize { n: width, f };
+    }
+    if height < f {
+        return Planes::MinFilterSize { n: height, f };
+    }
+    bands_answer(band_need(width, height, f), ll, lh, hl, hh)
+}
+
+// The four bands of a plane w wide and h high, each column by column.
+pub fn analyse_plane(
+    bank: Bank,
+    plane: &[f64],
+    w: usize,
+    h: usize,
+    ll: &mut [f64],
+    lh: &mut [f64],
+    hl: &mut [f64],
+    hh: &mut [f64],
+    scratch: &mut [f64],
+) -> Planes
+    ensures { λ r. ⌜ Analysed bank (now (plane .entry)) w h (now (ll .entry)) (now (lh .entry)) (now (hl .entry)) (now (hh .entry)) (now (scratch .entry))
+        r (now (ll .exit)) (now (lh .exit)) (now (hl .exit)) (now (hh .exit)) (now (scratch .exit)) ⌝ }
+{
+    let f = bank.taps;
+    let answer = plane_analysis_answer(
+        w,
+        h,
+        f,
+        plane.len(),
+        scratch.len(),
+        ll.len(),
+        lh.len(),
+        hl.len(),
+        hh.len(),
+    );
+    let Planes::Done = answer else {
+        return answer;
+    };
+    let border = bank.border;
+    let low = bank.low;
+    let high = bank.high;
+    split_plane(&low, &high, f, border, plane, w, h, ll, lh, hl, hh, scratch);
+    Planes::Done
+}

@@ -1,0 +1,155 @@
+-- `plane_synthesis::work::join_plane` meets its contract: the columns of either half, their crossing, and the rows read there are the plane, and none of them reaches beyond the need.
+use borrow.Author.Needs.{needs}
+use borrow.Rule.Slice.PartMut.{putMid, mid-len, same-len-mid}
+use Prim.Native.Nat.{ℕ, _+_, _-_, _*_, _≤_}
+use native.Mathlib.Omega.{arith}
+use mathlib.Core.Path.{_≡_, refl, sym, ap, _∙_}
+use mathlib.Core.List.{List, _++_}
+use denote.Ref.{now}
+use lib.ListN.{length, take, drop}
+use lib.Seq.{length-front, length-take-le}
+use lib.Ieee.{Float, binary64}
+use Rattle.bank.specs.Lengths.{pairs}
+use Rattle.planes.specs.Areas.{few-pairs, row-area}
+use Rattle.plane_synthesis.specs.Tested.{room, columning, crossable, rowing, joined}
+use Rattle.plane_synthesis.proofs.work.join_plane.Statement.{statement}
+use Rattle.plane_synthesis.proofs.work.join_plane.Tie as tie
+
+add-m : tie.Need-add-m
+add-m c = let s = c .before .before .before .before .before .before in omega (arith, s .pre .held .sides .across, s .pre .held .sides .taps .most)
+
+sub-m : tie.Need-sub-m
+sub-m c = let s = c .before .before .before .before .before .before in omega (arith, s .pre .held .sides .wide)
+
+mul-half : tie.Need-mul-half
+mul-half c = let s = c .before .before .before .before .before .before in omega (arith, row-area (s .pre .held .sides))
+
+add-area : tie.Need-add-area
+add-area c = let s = c .before .before .before .before .before .before in omega (arith, row-area (s .pre .held .sides))
+
+add-end : tie.Need-add-end
+add-end c = let s = c .before .before .before .before .before .before in omega (arith, row-area (s .pre .held .sides))
+
+slice-relend-prefix-columns : tie.Need-slice-relend-prefix-columns
+slice-relend-prefix-columns c = let s = c .before .before .before .before .before .before in omega (arith, room (s .pre))
+
+-- the first half has its length
+first : (c : tie.After-slice-known2) → let a = c .before .before .before .before .before .before .args in length (take (pairs (a .width) (a .f) * a .height) (now (a .scratch))) ≡ pairs (a .width) (a .f) * a .height
+first c = let s = c .before .before .before .before .before .before in length-take-le (pairs (s .args .width) (s .args .f) * s .args .height) (now (s .args .scratch)) (omega (arith, room (s .pre)))
+
+slice-aggregate-columns : tie.Need-slice-aggregate-columns
+slice-aggregate-columns c = sym (first (c .before))
+
+columns-requires : tie.Need-columns-requires
+columns-requires c κs = let s = c .before .before .before .before .before .before .before in columning (s .pre) (s .pre .bands .first) (s .pre .bands .second) (first (c .before))
+
+-- after each of them the scratch is as long as it was
+after-columns : (c : tie.After-columns) → let a = c .before .before .before .before .before .before .before .before .args in length (c .columns .last .1 .1 .1 .1 .1 .1 .1 .0 ++ drop (pairs (a .width) (a .f) * a .height) (now (a .scratch))) ≡ length (now (a .scratch))
+after-columns c = let a = c .before .before .before .before .before .before .before .before .args in length-front (now (a .scratch)) (c .columns .last .1 .1 .1 .1 .1 .1 .1 .0) (pairs (a .width) (a .f) * a .height) (c .columns .kept .1 .1 .1 .1 .1 .1 .1 .0)
+
+mul-columns : tie.Need-mul-columns
+mul-columns c = omega (arith, room (c .before .before .before .before .before .before .before .before .before .before .pre))
+
+sub-columns : tie.Need-sub-columns
+sub-columns c = search needs
+
+part-columns-start : tie.Need-part-columns-start
+part-columns-start c = search needs
+
+part-columns-end : tie.Need-part-columns-end
+part-columns-end c = omega (arith, room (c .before .before .before .before .before .before .before .before .before .before .pre), after-columns (c .before .before))
+
+columns-requires-2 : tie.Need-columns-requires-2
+columns-requires-2 c κs =
+    let l = c .before .before .before in
+    let s = c .before .before .before .before .before .before .before .before .before .before .before in
+    let a = s .args in
+    let half = pairs (a .width) (a .f) * a .height in
+    let part = mid-len half (half + half) (l .columns .last .1 .1 .1 .1 .1 .1 .1 .0 ++ drop half (now (a .scratch))) (omega (arith, room (s .pre), after-columns l)) in
+    columning (s .pre) (s .pre .bands .third) (s .pre .bands .fourth) (omega (arith, part))
+
+after-columns2 : (c : tie.After-columns2)
+    → let l = c .before .before .before .before in
+    let a = c .before .before .before .before .before .before .before .before .before .before .before .before .args in
+    let half = pairs (a .width) (a .f) * a .height in
+    length (putMid half (half + half - half) (l .columns .last .1 .1 .1 .1 .1 .1 .1 .0 ++ drop half (now (a .scratch))) (c .columns2 .last .1 .1 .1 .1 .1 .1 .1 .0)) ≡ length (now (a .scratch))
+after-columns2 c =
+    let l = c .before .before .before .before in
+    let a = c .before .before .before .before .before .before .before .before .before .before .before .before .args in
+    let half = pairs (a .width) (a .f) * a .height in
+    same-len-mid half (half + half - half) (l .columns .last .1 .1 .1 .1 .1 .1 .1 .0 ++ drop half (now (a .scratch))) (c .columns2 .last .1 .1 .1 .1 .1 .1 .1 .0) (c .columns2 .kept .1 .1 .1 .1 .1 .1 .1 .0) ∙ after-columns l
+
+add-cross : tie.Need-add-cross
+add-cross c = omega (arith, few-pairs (c .before .before .before .before .before .before .before .before .before .before .before .before .before .before .before .pre .held .sides))
+
+cross-requires : tie.Need-cross-requires
+cross-requires c κs = crossable (c .before .before .before .before .before .before .before .before .before .before .before .before .before .before .before .pre) (after-columns2 (c .before .before .before))
+
+mul-rows : tie.Need-mul-rows
+mul-rows c = omega (arith, row-area (c .before .before .before .before .before .before .before .before .before .before .before .before .before .before .before .before .before .before .pre .held .sides))
+
+sub-rows : tie.Need-sub-rows
+sub-rows c = search needs
+
+part-rows-start : tie.Need-part-rows-start
+part-rows-start c = search needs
+
+part-rows-end : tie.Need-part-rows-end
+part-rows-end c = omega (arith, room (c .before .before .before .before .before .before .before .before .before .before .before .before .before .before .before .before .before .before .before .pre), c .before .before .before .cross .kept .0, after-columns2 (c .before .before .before .before .before .before .before))
+
+rows-requires : tie.Need-rows-requires
+rows-requires c κs =
+    let k = c .before .before .before .before .before in
+    let s = c .before .before .before .before .before .before .before .before .before .before .before .before .before .before .before .before .before .before .before .before .before in
+    let a = s .args in
+    let half = pairs (a .width) (a .f) * a .height in
+    let part = mid-len (half + half) (half + half + (half + half)) (k .cross .last .0) (omega (arith, room (s .pre), k .cross .kept .0, after-columns2 (c .before .before .before .before .before .before .before .before .before))) in
+    rowing (s .pre) (omega (arith, part)) refl
+
+same-length : tie.Need-same-length
+same-length c = c .before .before .rows .kept .1 .1 .1 .1 .1 .1 .0
+
+same-length-2 : tie.Need-same-length-2
+same-length-2 c = c .before .before .before .before .before .before .before .before .cross .kept .0 ∙ after-columns2 (c .before .before .before .before .before .before .before .before .before .before .before .before)
+
+returns : tie.Need-returns
+returns c =
+    let r = c .before .before in
+    let k = c .before .before .before .before .before .before .before .before in
+    let j = c .before .before .before .before .before .before .before .before .before .before .before .before in
+    let i = c .before .before .before .before .before .before .before .before .before .before .before .before .before .before .before .before in
+    let s = c .before .before .before .before .before .before .before .before .before .before .before .before .before .before .before .before .before .before .before .before .before .before .before .before in
+    let a = s .args in
+    let half = pairs (a .width) (a .f) * a .height in
+    joined (s .pre) binary64 (now (a .low)) (now (a .high)) (now (a .ll)) (now (a .lh)) (now (a .hl)) (now (a .hh)) (now (a .scratch))
+    (i .columns .last .1 .1 .1 .1 .1 .1 .1 .0 ++ drop half (now (a .scratch))) _ (j .columns2 .last .1 .1 .1 .1 .1 .1 .1 .0) (k .cross .last .0)
+    refl (ap (λ (l : List Float). l ++ drop half (now (a .scratch))) (i .columns .ensures)) (j .columns2 .ensures) refl (after-columns2 j) (k .cross .ensures) (k .cross .kept .0)
+    (half + half + (half + half) - (half + half)) (omega arith) (r .rows .ensures)
+
+pub join-plane-spec : {M : Type 1} → statement M
+join-plane-spec =
+    tie.close
+    (tie.spec
+    add-m
+    sub-m
+    mul-half
+    add-area
+    add-end
+    slice-relend-prefix-columns
+    slice-aggregate-columns
+    columns-requires
+    mul-columns
+    sub-columns
+    part-columns-start
+    part-columns-end
+    columns-requires-2
+    add-cross
+    cross-requires
+    mul-rows
+    sub-rows
+    part-rows-start
+    part-rows-end
+    rows-requires
+    same-length
+    same-length-2
+    returns)

@@ -1,0 +1,96 @@
+-- Laws of a plane's synthesis: a side that is even may be joined, each join is one line of the table, and the rows of the columns' crossing are those that the definition joins.
+use mathlib.Core.Path.{_≡_, refl, sym, ap, _∙_}
+use mathlib.Core.List.{List, [], _++_, append-nil}
+use Prim.Native.Nat.{ℕ, _+_, _-_, _*_, _%_, _≤_, _<_}
+use native.Mathlib.Nat.{mul-comm}
+use native.Mathlib.Omega.{arith}
+use lib.ListN.{length, take, drop, length-drop}
+use lib.Seq.{length-take-le, take-at, drop-at, take-add, take-take, drop-drop}
+use lib.Ieee.{Float, Format}
+use Rattle.numbers.specs.Words.{longest, at, cleared}
+use Rattle.numbers.specs.Write.{length-tab}
+use Rattle.bank.specs.Lengths.{GoodTaps, pairs}
+use Rattle.synthesis.specs.Lines.{synthesised}
+use Rattle.synthesis.specs.Works.{Joinable}
+use Rattle.synthesis.specs.Runs.{length-synthesised}
+use Rattle.tables.specs.Tables.{lineOf, stored, crossing, crossed}
+use Rattle.tables.specs.Works.{Crossable}
+use Rattle.tables.specs.Stored.{length-stored, line-stored, line-further, stored-same, length-crossing, crossing-same, crossing-add}
+use Rattle.tables.specs.Crosses.{crossings}
+use Rattle.plane_synthesis.specs.Joins.{joinOf}
+use Rattle.plane_synthesis.specs.Works.{rowHeld}
+
+-- ---- joins
+pub side-joins : (n f : ℕ) {a d o : ℕ} → GoodTaps f → 1 ≤ n → n ≤ longest → n % 2 ≡ 0 → a ≡ pairs n f → d ≡ pairs n f → o ≡ n → Joinable f a d o
+side-joins n f t some few even ea ed eo = record {
+  two = t .two;
+  most = t .most;
+  even = t .even;
+  few = omega (arith, ea, few, some, t .most, t .two);
+  both = omega (arith, ea, ed);
+  ruled = omega (arith, ea, eo, even, t .even, t .two, some);
+}
+
+pub length-join : (g : Format) (F : ℕ) (low high : List Float) (n : ℕ) (a d : List Float) → length (joinOf g F low high n a d) ≡ n
+length-join g F low high n a d = length-synthesised g F low high a d (cleared n) ∙ length-tab _ n
+
+-- a join of parts, by their lengths
+pub joined-parts : (g : Format) (F : ℕ) (low high : List Float) (n : ℕ) {a a′ d d′ ys : List Float} {o : ℕ} → ys ≡ synthesised g F low high a d (cleared o) → a ≡ a′ → d ≡ d′ → o ≡ n
+    → ys ≡ joinOf g F low high n a′ d′
+joined-parts g F low high n {a} {a′} {d} {d′} {ys} {o} e ea ed eo =
+    e ∙ ap (λ (x : List Float). synthesised g F low high x d (cleared o)) ea ∙ ap (λ (x : List Float). synthesised g F low high a′ x (cleared o)) ed
+    ∙ ap (λ (k : ℕ). joinOf g F low high k a′ d′) eo
+
+-- ---- the bands of a row, m each, in its line
+pub row-low : (m r k : ℕ) (x : List Float) → k ≡ m → take k (drop (r * (m + m)) x) ≡ take m (lineOf (m + m) x r)
+row-low m r k x e = ap (λ (n : ℕ). take n (drop (r * (m + m)) x)) e ∙ sym (take-take m (m + m) (drop (r * (m + m)) x) (omega arith))
+
+pub row-high : (m r k : ℕ) (x : List Float) → k ≡ m → r * (m + m) + (m + m) ≤ length x → take k (drop (r * (m + m) + m) x) ≡ drop m (lineOf (m + m) x r)
+row-high m r k x e h =
+    let z = drop (r * (m + m)) x in
+    ap (λ (n : ℕ). take n (drop (r * (m + m) + m) x)) e
+    ∙ ap (take m) (sym (drop-drop m (r * (m + m)) x))
+    ∙ sym (drop-at (take m z) (take m (drop m z)) m (length-take-le m z (omega (arith, length-drop (r * (m + m)) x))))
+    ∙ ap (drop m) (sym (take-add m m z))
+
+-- ---- all of it: two tables of m columns of h stand in s, their crossing behind them in t
+module _ (cl ch : ℕ → List Float) (m h : ℕ) (el : (c : ℕ) → length (cl c) ≡ h) (eh : (c : ℕ) → length (ch c) ≡ h) (s t rest : List Float)
+    (es : s ≡ stored cl m ++ (stored ch m ++ rest)) (w : Crossable (length s) (m + m) h) (et : t ≡ crossed (m + m) h s) where
+  low-line : (c : ℕ) → c < m → lineOf h s c ≡ cl c
+  low-line c l = ap (λ (y : List Float). lineOf h y c) es ∙ line-stored cl h m (λ k q. el k) (stored ch m ++ rest) c l
+
+  high-line : (c : ℕ) → c < m → lineOf h s (m + c) ≡ ch c
+  high-line c l =
+      sym (line-further h m c s)
+      ∙ ap (λ (y : List Float). lineOf h y c) (ap (drop (m * h)) es ∙ drop-at (stored cl m) (stored ch m ++ rest) (m * h) (length-stored cl h m (λ k q. el k)))
+      ∙ line-stored ch h m (λ k q. eh k) rest c l
+
+  -- row r of the crossing: the approximations, then the details
+  row-crossed : (r : ℕ) → crossing (lineOf h s) (m + m) r ≡ crossing cl m r ++ crossing ch m r
+  row-crossed r =
+      crossing-add (lineOf h s) m m r
+      ∙ ap (λ (y : List Float). y ++ crossing (λ k. lineOf h s (m + k)) m r) (crossing-same (lineOf h s) cl m r r (λ k q. ap (λ (y : List Float). at y r) (low-line k q)))
+      ∙ ap (λ (y : List Float). crossing cl m r ++ y) (crossing-same (λ k. lineOf h s (m + k)) ch m r r (λ k q. ap (λ (y : List Float). at y r) (high-line k q)))
+
+  -- where the crossing is read
+  bands-held : (n : ℕ) → n ≡ (m + m) * h → take n (drop ((m + m) * h) t) ≡ stored (crossing (lineOf h s) (m + m)) h
+  bands-held n e =
+      ap (λ (y : List Float). take n (drop ((m + m) * h) y)) et
+      ∙ ap (take n) (crossings (m + m) h s w)
+      ∙ take-at (stored (crossing (lineOf h s) (m + m)) h) (drop ((m + m) * h + (m + m) * h) s) n
+      (length-stored (crossing (lineOf h s) (m + m)) (m + m) h (λ k q. length-crossing (lineOf h s) (m + m) k) ∙ mul-comm h (m + m) ∙ sym e)
+
+  pub row-read : (n r : ℕ) → n ≡ (m + m) * h → r < h → lineOf (m + m) (take n (drop ((m + m) * h) t)) r ≡ crossing cl m r ++ crossing ch m r
+  row-read n r e l =
+      ap (λ (y : List Float). lineOf (m + m) y r) (bands-held n e ∙ sym (append-nil (stored (crossing (lineOf h s) (m + m)) h)))
+      ∙ line-stored (crossing (lineOf h s) (m + m)) (m + m) h (λ k q. length-crossing (lineOf h s) (m + m) k) [] r l
+      ∙ row-crossed r
+
+  pub rows-joined : (g : Format) (F : ℕ) (low high : List Float) (v n : ℕ) → n ≡ (m + m) * h
+      → stored (rowHeld g F low high v m (take n (drop ((m + m) * h) t))) h ≡ stored (λ r. joinOf g F low high v (crossing cl m r) (crossing ch m r)) h
+  rows-joined g F low high v n e =
+      stored-same (rowHeld g F low high v m (take n (drop ((m + m) * h) t))) (λ r. joinOf g F low high v (crossing cl m r) (crossing ch m r)) h
+      (λ r l. let q = row-read n r e l in
+      ap (λ (y : List Float). joinOf g F low high v (take m y) (drop m y)) q
+      ∙ ap (λ (y : List Float). joinOf g F low high v y (drop m (crossing cl m r ++ crossing ch m r))) (take-at (crossing cl m r) (crossing ch m r) m (length-crossing cl m r))
+      ∙ ap (joinOf g F low high v (crossing cl m r)) (drop-at (crossing cl m r) (crossing ch m r) m (length-crossing cl m r)))

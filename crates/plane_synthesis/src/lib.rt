@@ -1,0 +1,95 @@
+// Synthesis of a plane: an upper crate over the line filter's promises.
+pub mod work;
+
+ghost use mathlib.Core.Path.{_≡_};
+ghost use Rattle.plane_synthesis.specs.Syntheses.{sidesOf, answerOf, Synthesised};
+ghost use Rattle.planes.specs.Works.{Sided};
+use crate::work::join_plane;
+use bank::Bank;
+use planes::Planes;
+use planes::bands_answer;
+use planes::held_answer;
+use planes::sizes::band_need;
+
+// Whether synthesis gives these sides; they have been tested for size.
+fn sides_answer(width: usize, height: usize, f: usize) -> Planes
+    requires { ⌜ Sided width height f ⌝ }
+    ensures { λ r. ⌜ r ≡ sidesOf width height f ⌝ }
+{
+    let high = 2 * ((height + f - 1) / 2) + 2 - f;
+    if height != high {
+        return Planes::OutputSizeIsNotValid {
+            have: height,
+            need: high,
+        };
+    }
+    let wide = 2 * ((width + f - 1) / 2) + 2 - f;
+    if width != wide {
+        return Planes::OutputSizeIsNotValid {
+            have: width,
+            need: wide,
+        };
+    }
+    Planes::Done
+}
+
+// The tests, on lengths alone.
+pub fn plane_synthesis_answer(
+    width: usize,
+    height: usize,
+    f: usize,
+    plane: usize,
+    scratch: usize,
+    ll: usize,
+    lh: usize,
+    hl: usize,
+    hh: usize,
+) -> Planes
+    ensures { λ r. ⌜ r ≡ answerOf width height f plane scratch ll lh hl hh ⌝ }
+{
+    let held = held_answer(width, height, f, plane, scratch);
+    let Planes::Done = held else {
+        return held;
+    };
+    let bands = bands_answer(band_need(width, height, f), ll, lh, hl, hh);
+    let Planes::Done = bands else {
+        return bands;
+    };
+    sides_answer(width, height, f)
+}
+
+// The plane w wide and h high that four bands give; what the target held is gone.
+pub fn synthesise_plane(
+    bank: Bank,
+    ll: &[f64],
+    lh: &[f64],
+    hl: &[f64],
+    hh: &[f64],
+    w: usize,
+    h: usize,
+    plane: &mut [f64],
+    scratch: &mut [f64],
+) -> Planes
+    ensures { λ r. ⌜ Synthesised bank (now (ll .entry)) (now (lh .entry)) (now (hl .entry)) (now (hh .entry)) w h (now (plane .entry)) (now (scratch .entry))
+        r (now (plane .exit)) (now (scratch .exit)) ⌝ }
+{
+    let f = bank.taps;
+    let answer = plane_synthesis_answer(
+        w,
+        h,
+        f,
+        plane.len(),
+        scratch.len(),
+        ll.len(),
+        lh.len(),
+        hl.len(),
+        hh.len(),
+    );
+    let Planes::Done = answer else {
+        return answer;
+    };
+    let low = bank.low;
+    let high = bank.high;
+    join_plane(&low, &high, f, ll, lh, hl, hh, w, h, plane, scratch);
+    Planes::Done
+}

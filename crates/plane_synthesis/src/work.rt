@@ -1,0 +1,115 @@
+// Columns, then rows, for entries to share: sizes have been tested.
+// The scratch holds the joined columns one after another, those of the approximations first, and behind them their crossing, which has both bands of each row.
+ghost use mathlib.Core.Path.{_≡_};
+ghost use lib.ListN.{length};
+ghost use lib.Ieee.{binary64};
+ghost use Rattle.bank.specs.Lengths.{pairs};
+ghost use Rattle.tables.specs.Tables.{stored};
+ghost use Rattle.plane_synthesis.specs.Joins.{columnJoin};
+ghost use Rattle.plane_synthesis.specs.Works.{Columning, Rowing, rowHeld, Synthesising, Joined};
+use synthesis::work::join_cleared;
+use tables::cross;
+
+// Each column of two bands joined, one after another.
+fn columns(
+    low: &[f64; 64],
+    high: &[f64; 64],
+    f: usize,
+    lo: &[f64],
+    hi: &[f64],
+    width: usize,
+    height: usize,
+    out: &mut [f64],
+)
+    requires { ⌜ Columning width height f (length (now lo)) (length (now hi)) (length (now out)) ⌝ }
+    ensures { λ _. ⌜ now (out .exit) ≡ stored (columnJoin binary64 f (now (low .entry)) (now (high .entry)) height (now (lo .entry)) (now (hi .entry))) (pairs width f) ⌝ }
+{
+    let m = (width + f - 1) / 2;
+    let b = (height + f - 1) / 2;
+    let mut c = 0usize;
+    while c < m {
+        let from = c * b;
+        let to = from + b;
+        let start = c * height;
+        let end = start + height;
+        join_cleared(
+            low,
+            high,
+            f,
+            &lo[from..to],
+            &hi[from..to],
+            &mut out[start..end],
+        );
+        c += 1;
+    }
+}
+
+// Each row joined from its bands, which lie one row after another, the approximations first.
+fn rows(
+    low: &[f64; 64],
+    high: &[f64; 64],
+    f: usize,
+    bands: &[f64],
+    width: usize,
+    height: usize,
+    plane: &mut [f64],
+)
+    requires { ⌜ Rowing width height f (length (now bands)) (length (now plane)) ⌝ }
+    ensures { λ _. ⌜ now (plane .exit) ≡ stored (rowHeld binary64 f (now (low .entry)) (now (high .entry)) width (pairs width f) (now (bands .entry))) height ⌝ }
+{
+    let m = (width + f - 1) / 2;
+    let mut r = 0usize;
+    while r < height {
+        let from = r * (m + m);
+        let mid = from + m;
+        let end = mid + m;
+        let start = r * width;
+        let to = start + width;
+        join_cleared(
+            low,
+            high,
+            f,
+            &bands[from..mid],
+            &bands[mid..end],
+            &mut plane[start..to],
+        );
+        r += 1;
+    }
+}
+
+// The whole plane.
+pub fn join_plane(
+    low: &[f64; 64],
+    high: &[f64; 64],
+    f: usize,
+    ll: &[f64],
+    lh: &[f64],
+    hl: &[f64],
+    hh: &[f64],
+    width: usize,
+    height: usize,
+    plane: &mut [f64],
+    scratch: &mut [f64],
+)
+    requires { ⌜ Synthesising width height f (length (now plane)) (length (now scratch)) (length (now ll)) (length (now lh)) (length (now hl)) (length (now hh)) ⌝ }
+    ensures { λ _. ⌜ Joined binary64 f (now (low .entry)) (now (high .entry)) width height (now (ll .entry)) (now (lh .entry)) (now (hl .entry)) (now (hh .entry)) (now (scratch .entry))
+        (now (plane .exit)) (now (scratch .exit)) ⌝ }
+{
+    let m = (width + f - 1) / 2;
+    let half = m * height;
+    let area = half + half;
+    let end = area + area;
+    columns(low, high, f, ll, lh, width, height, &mut scratch[..half]);
+    columns(
+        low,
+        high,
+        f,
+        hl,
+        hh,
+        width,
+        height,
+        &mut scratch[half..area],
+    );
+    cross(scratch, m + m, height);
+    rows(low, high, f, &scratch[area..end], width, height, plane);
+}
