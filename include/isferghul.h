@@ -1,15 +1,18 @@
-/* Isferghul: a wavelet filter bank for lines of 64-bit floats. Link with libisferghul.a (x86-64).
+/* Isferghul: a wavelet filter bank for lines and planes of 64-bit floats. Link with libisferghul.a (x86-64).
  *
- * Every function answers for every input and always returns. It gives a number back: 0 is done, any other is a refusal:
+ * Every function answers for every input and always returns. It gives a number back: 0 is done, 27 is the other answer of comparing, any other is a refusal:
  *
  *    1  fewer samples than taps (carries samples, taps)       9  some level of several has fewer samples than taps
- *    2  a band's length is wrong (its length)                10  the packed buffer's length is wrong (need, have)
- *    3  the bands' lengths differ (both)                     11  past a limit: 1,048,576 numbers, 64 kernel taps, a 32-bit centre
- *    4  the output's length is wrong (have, need)            12  tap lists odd, empty, over 64 or unequal
+ *    2  a band's length is wrong (its length)                10  a length is wrong, or a plane's scratch too short (need, have)
+ *    3  the bands' lengths differ (both)                     11  past a limit: 1,048,576 numbers in a line or on a side of a plane or of a band
+ *    4  the output's length, or a side, is wrong                 compared, 16,777,216 in either, 64 kernel taps, a 32-bit centre
+ *       (have, need)                                         12  tap lists odd, empty, over 64 or unequal
  *    5  the scratch is too short (need, have)                13  a Reflect101 pad over n - 2, with n above 1
  *    6  line and output differ in length (both)              22  no such level (the level)
  *    7  nothing to work on                                   23  no such place of the level (the place)
  *    8  the centre lies outside the kernel (its size, taps)  26  no border has this number (the number)
+ *
+ *   27  no refusal: two bands differ (column, row of the first place that does)
  *
  * What an answer carries goes to carried[0] and carried[1]; words that carry nothing stay as they were. On a refusal nothing else that was lent changes.
  *
@@ -101,6 +104,41 @@ uint64_t isferghul_restore_levels(const double *low, size_t lows, const double *
    Refuses by 12, 11, 1 or 9, 10, 22, 23. */
 uint64_t isferghul_read_place(const double *packed, size_t packeds, size_t n, size_t f, size_t levels, size_t level, size_t place,
                               double value[1], size_t carried[2]);
+
+/* Planes of width by height numbers, stored row by row. Rows are split first, then columns: LL and LH come from the row approximations, HL and HH from
+   the row details, the second letter naming the taps of the columns. A band has m(width) columns of m(height) places each, m(n) being (n + f - 1) / 2;
+   it is stored column by column: place r of column c is at c * m(height) + r. */
+
+/* How many columns each band has, m(width): carried[0] on 0. Refuses by 12, 7, 11. */
+uint64_t isferghul_plane_band_width(size_t width, size_t height, size_t f, size_t carried[2]);
+
+/* How many places each column of a band has, m(height): carried[0] on 0. Refuses by 12, 7, 11. */
+uint64_t isferghul_plane_band_height(size_t width, size_t height, size_t f, size_t carried[2]);
+
+/* How long each band is, m(width) * m(height): carried[0] on 0. Refuses by 12, 7, 11. */
+uint64_t isferghul_plane_band_length(size_t width, size_t height, size_t f, size_t carried[2]);
+
+/* How much scratch analysis and synthesis of a plane need: carried[0] on 0. Refuses by 12, 7, 11. */
+uint64_t isferghul_plane_scratch(size_t width, size_t height, size_t f, size_t carried[2]);
+
+/* The four bands of a plane. What the scratch then holds within its need is not said; beyond it is as it was.
+   Refuses by 26, 12, 7, 11, 10 for the plane, 10 for the scratch, 1 for the width, 1 for the height, 2 for LL, LH, HL and HH in turn. */
+uint64_t isferghul_analyse_plane(size_t border, const double *low, size_t lows, const double *high, size_t highs,
+                                 const double *plane, size_t planes, size_t width, size_t height,
+                                 double *ll, size_t lls, double *lh, size_t lhs, double *hl, size_t hls, double *hh, size_t hhs,
+                                 double *scratch, size_t scratches, size_t carried[2]);
+
+/* The plane that four bands give; unlike a line's, its joins start from +0, so what the plane held is gone. Both sides are even: an odd one is refused
+   by 4, whose need is one more. What the scratch then holds within its need is not said; beyond it is as it was.
+   Refuses by 12, 7, 11, 10 for the plane, 10 for the scratch, 2 for LL, LH, HL and HH in turn, 4 for the height, 4 for the width. */
+uint64_t isferghul_synthesise_plane(const double *low, size_t lows, const double *high, size_t highs,
+                                    const double *ll, size_t lls, const double *lh, size_t lhs, const double *hl, size_t hls, const double *hh, size_t hhs,
+                                    size_t width, size_t height, double *plane, size_t planes, double *scratch, size_t scratches, size_t carried[2]);
+
+/* Two bands of width columns of height places each, compared bit by bit in stored order, where a NaN is a NaN: 0 if they are equal, 27 if not, with the
+   first place that differs in carried[0], its column, and carried[1], its row. Refuses by 7, 11, 10 for the first, 10 for the second. */
+uint64_t isferghul_compare_bands(const double *first, size_t firsts, const double *second, size_t seconds,
+                                 size_t width, size_t height, size_t carried[2]);
 
 #ifdef __cplusplus
 }

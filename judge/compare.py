@@ -2,9 +2,10 @@
 
     compare.py --seed N --cases N --work FOLDER --differences FILE --driver COMMAND --host COMMAND
 
-Two results agree if the number, what it carries and every lent buffer agree, bit for bit, every NaN being one. Where they do not, ours
-has to be document 01's (rules.py) and a row of docs/DIFFERENCES.md has to admit what the Rust does (rows.py). The last line is
-`N cases, K differ`, and before it stands the smallest input at which the two part, if they do."""
+Two results agree if the number, what it carries and every lent buffer agree, bit for bit, every NaN being one; of a plane's scratch, after
+a done call, what lies beyond its need. Where they do not, ours has to be document 01's (rules.py) and a row of docs/DIFFERENCES.md has to
+admit what the Rust does (rows.py). The last line is `N cases, K differ`, and before it stands the smallest input at which the two part, if
+they do."""
 import argparse
 import collections
 import os
@@ -16,6 +17,7 @@ import time
 
 import kinds
 import level_cases
+import plane_cases
 import protocol
 import rows
 import rules
@@ -43,12 +45,19 @@ def fault_of_ours(case, ours):
     return None
 
 
+def said(case, result):
+    """The lent buffers, as far as document 01 says what they then hold."""
+    if result.number != 0:
+        return result.buffers
+    return [data[8 * front:] for data, front in zip(result.buffers, rules.unsaid(case))]
+
+
 def judged(case, rust, ours):
     """The row that admits the two results (None if they agree), and the fault that they show (None if there is none)."""
     fault = fault_of_ours(case, ours)
     if fault:
         return None, fault
-    same_buffers = rust.buffers == ours.buffers
+    same_buffers = said(case, rust) == said(case, ours)
     if (rust.number, rust.carried) == (ours.number, ours.carried) and same_buffers:
         return rows.beside(case, rust), None
     if rust.number == ours.number == 0 and not same_buffers:
@@ -159,7 +168,8 @@ def run_batch(sides, tally, name, batch):
 
 def back_again(rng, batch, rust):
     """The way back from what the Rust gave, which is what ours gave where nothing differs."""
-    return [level_cases.back(rng, case, result.buffers[0]) for case, result in zip(batch, rust, strict=True)]
+    back = {protocol.ANALYSE_LEVELS: level_cases.back, protocol.ANALYSE_PLANE: plane_cases.back}
+    return [back[case.op](rng, case, result) for case, result in zip(batch, rust, strict=True)]
 
 
 def run_kind(sides, tally, name, count, cases):

@@ -1,17 +1,16 @@
 /* host: reads cases from stdin, calls the library on each, writes the results to stdout (protocol.py says which words).
    Every list lies between guard words, so that a write outside it shows. */
 #include "isferghul.h"
+#include "host.h"
 #include <stdio.h>
 #include <stdlib.h>
 #include <string.h>
 
 #define PATTERN UINT64_C(0xCCCCCCCCCCCCCCCC)
-#define GUARD UINT64_C(0xA5A5A5A5A5A5A5A5)
-#define ONE_NAN UINT64_C(0x7FF8000000000000)
-#define GUARDS 8
-#define LISTS 6
+#define LISTS 8
 #define SCALARS 5
-#define OPERATIONS 16
+#define OPERATIONS 24
+#define LARGE_PLANE 24
 
 /* Words that grow. */
 struct words {
@@ -30,9 +29,10 @@ struct list {
 static const struct { int scalars, lists, lent; } shapes[OPERATIONS + 1] = {
     {0, 0, 0}, {1, 6, 0x38}, {0, 5, 0x10}, {2, 4, 0x06}, {2, 0, 0}, {2, 0, 0}, {2, 0, 0}, {3, 0, 0}, {0, 2, 0x02},
     {3, 0, 0}, {3, 0, 0}, {3, 0, 0}, {2, 0, 0}, {4, 0, 0}, {2, 5, 0x18}, {2, 5, 0x18}, {5, 2, 0x02},
+    {3, 0, 0}, {3, 0, 0}, {3, 0, 0}, {3, 0, 0}, {3, 8, 0xF8}, {2, 8, 0xC0}, {2, 2, 0}, {3, 4, 0x08},
 };
 
-static void stop(const char *why) {
+void stop(const char *why) {
     fprintf(stderr, "host: %s\n", why);
     exit(2);
 }
@@ -79,12 +79,6 @@ static void lay_out(struct words *arena, struct list *list, int lists) {
     }
 }
 
-static uint64_t word_at(const double *x, size_t i) {
-    uint64_t word;
-    memcpy(&word, x + i, sizeof word);
-    return word;
-}
-
 /* The places up to the last one whose bits changed. */
 static size_t reach(const struct list *l) {
     size_t n = l->count;
@@ -97,6 +91,22 @@ static int guards_changed(const struct list *list, int lists) {
         for (int g = 1; g <= GUARDS; g++)
             if (word_at(list[i].seen - g, 0) != GUARD || word_at(list[i].seen + list[i].count, (size_t)g - 1) != GUARD) return 1;
     return 0;
+}
+
+static uint64_t call_planes(uint64_t op, const uint64_t *s, const struct list *l, size_t carried[2]) {
+    switch (op) {
+    case 17: return isferghul_plane_band_width(s[0], s[1], s[2], carried);
+    case 18: return isferghul_plane_band_height(s[0], s[1], s[2], carried);
+    case 19: return isferghul_plane_band_length(s[0], s[1], s[2], carried);
+    case 20: return isferghul_plane_scratch(s[0], s[1], s[2], carried);
+    case 21: return isferghul_analyse_plane(s[0], l[0].seen, l[0].count, l[1].seen, l[1].count, l[2].seen, l[2].count, s[1], s[2],
+                                            l[3].seen, l[3].count, l[4].seen, l[4].count, l[5].seen, l[5].count, l[6].seen, l[6].count,
+                                            l[7].seen, l[7].count, carried);
+    case 22: return isferghul_synthesise_plane(l[0].seen, l[0].count, l[1].seen, l[1].count, l[2].seen, l[2].count, l[3].seen, l[3].count,
+                                               l[4].seen, l[4].count, l[5].seen, l[5].count, s[0], s[1],
+                                               l[6].seen, l[6].count, l[7].seen, l[7].count, carried);
+    default: return isferghul_compare_bands(l[0].seen, l[0].count, l[1].seen, l[1].count, s[0], s[1], carried);
+    }
 }
 
 static uint64_t call_levels(uint64_t op, const uint64_t *s, const struct list *l, size_t carried[2]) {
@@ -129,8 +139,14 @@ static uint64_t call(uint64_t op, const uint64_t *s, const struct list *l, size_
     case 6: return isferghul_analysis_scratch(s[0], s[1], carried);
     case 7: return isferghul_convolution_scratch(s[0], s[1], (int64_t)s[2], carried);
     case 8: return isferghul_mirror(l[0].seen, l[0].count, l[1].seen, l[1].count);
-    default: return call_levels(op, s, l, carried);
+    default: return op < 17 ? call_levels(op, s, l, carried) : call_planes(op, s, l, carried);
     }
+}
+
+/* A plane that the case tells by a block; the flags are those of the large lists. */
+static uint64_t call_large(const uint64_t *s, const struct list *l, size_t carried[2], uint64_t *flags) {
+    if (l[0].count != l[1].count || l[2].count == 0 || l[3].count != DIGESTS) stop("a large plane has as many high taps as low ones, a block and five digests");
+    return large_plane(s[0], s[1], s[2], l[0].seen, l[1].seen, l[0].count, l[2].seen, l[2].count, l[3].seen, carried, flags);
 }
 
 static uint64_t flags_of(const struct list *l, int lists, int lent) {
@@ -138,10 +154,6 @@ static uint64_t flags_of(const struct list *l, int lists, int lent) {
     for (int i = 0; i < lists; i++)
         if (!(lent >> i & 1) && reach(&l[i]) != 0) flags |= 2;
     return flags;
-}
-
-static uint64_t one_nan(uint64_t word) {
-    return (word & UINT64_C(0x7FFFFFFFFFFFFFFF)) > UINT64_C(0x7FF0000000000000) ? ONE_NAN : word;
 }
 
 static void put_lent(struct words *out, const struct list *l) {
@@ -165,10 +177,11 @@ static void run(const struct words *in, size_t *at, struct words *arena, struct 
     }
     lay_out(arena, list, lists);
     size_t carried[2] = {PATTERN, PATTERN};
-    put(out, call(op, scalars, list, carried));
+    uint64_t flags = 0;
+    put(out, op == LARGE_PLANE ? call_large(scalars, list, carried, &flags) : call(op, scalars, list, carried));
     put(out, carried[0]);
     put(out, carried[1]);
-    put(out, flags_of(list, lists, lent));
+    put(out, flags | flags_of(list, lists, lent));
     for (int i = 0; i < lists; i++)
         if (lent >> i & 1) put_lent(out, &list[i]);
 }

@@ -9,7 +9,7 @@ import sys
 
 from compare import Sides
 from floats import bits
-from protocol import ANALYSE, ANALYSE_LEVELS, Case, CONVOLVE, in_hex, RESTORE_LEVELS, results, SYNTHESISE, words_of
+from protocol import ANALYSE, ANALYSE_LEVELS, ANALYSE_PLANE, Case, CONVOLVE, in_hex, RESTORE_LEVELS, results, SYNTHESISE, SYNTHESISE_PLANE, words_of
 
 X = 1 + 2.0**-30
 TWICE, ONCE = 0x3E20000000000000, 0x3E20000000200000
@@ -17,6 +17,16 @@ TWICE, ONCE = 0x3E20000000000000, 0x3E20000000200000
 
 def listed(*numbers):
     return array.array('Q', [bits(float(x)) for x in numbers])
+
+
+def plane_split(*samples):
+    """Analysis of 2 by 2 samples by 1 and x."""
+    return Case(ANALYSE_PLANE, (0, 2, 2), [listed(1, X), listed(1, X), listed(*samples), *[listed(7)] * 4, listed(*[7] * 10)])
+
+
+def plane_join(*bands):
+    """Synthesis of 2 by 2 samples, each band a number."""
+    return Case(SYNTHESISE_PLANE, (2, 2), [listed(1, X), listed(1, -1), *map(listed, bands), listed(*[7] * 4), listed(*[7] * 10)])
 
 
 # the case, which of its lent buffers tells, and from where to where
@@ -30,6 +40,10 @@ PROBES = (
      Case(ANALYSE_LEVELS, (0, 2), [listed(1, X), listed(1, X), listed(-1, 0, X, 0), listed(*[7] * 4), listed(*[7] * 8)]), 0, 2, 4),
     ('restoring of 2 levels, the last join',
      Case(RESTORE_LEVELS, (4, 2), [listed(X, X), listed(-1, -1), listed(1, 1, 0, 1), listed(*[7] * 4), listed(*[7] * 4)]), 1, 0, 4),
+    ('plane analysis, a row', plane_split(-1, X, 0, 0), 0, 0, 1),
+    ('plane analysis, a column', plane_split(-1, 0, X, 0), 3, 0, 1),
+    ('plane synthesis, a column', plane_join(X, 1, 0, 0), 0, 2, 3),
+    ('plane synthesis, a row', plane_join(X, 0, 1, 0), 0, 1, 2),
 )
 
 

@@ -3,7 +3,9 @@
 A case is its operation, its scalars, then each list as its count and its words (a float as its bits, a signed number in two's complement).
 A result is the number, two carried words, a word of flags, then for each lent buffer its reach (the places from the front up to the last one
 whose bits changed) and its words, every NaN as one. What carries nothing is PATTERN. The flags of ours: bit 0 a word outside the lists
-changed, bit 1 a list that is only read changed. In the Rust's results that word is how many inner approximations it kept."""
+changed, bit 1 a list that is only read changed. In the Rust's results that word is how many inner approximations it kept, or how many places
+of a plane become another number where target and scratch are not cleared. A large plane is told by a block of numbers that fills it over and
+over, and its result is a digest of each band and of the plane that they are joined to."""
 import array
 import collections
 import struct
@@ -33,9 +35,19 @@ SHAPES = {
     14: Shape('analyse_levels', ('border', 'levels'), ('low', 'high', 'line', 'packed', 'scratch'), (3, 4)),
     15: Shape('restore_levels', ('n', 'levels'), ('low', 'high', 'packed', 'first', 'second'), (3, 4)),
     16: Shape('read_place', ('n', 'f', 'levels', 'level', 'place'), ('packed', 'value'), (1,)),
+    17: Shape('plane_band_width', ('width', 'height', 'f'), (), ()),
+    18: Shape('plane_band_height', ('width', 'height', 'f'), (), ()),
+    19: Shape('plane_band_length', ('width', 'height', 'f'), (), ()),
+    20: Shape('plane_scratch', ('width', 'height', 'f'), (), ()),
+    21: Shape('analyse_plane', ('border', 'width', 'height'), ('low', 'high', 'plane', 'll', 'lh', 'hl', 'hh', 'scratch'), (3, 4, 5, 6, 7)),
+    22: Shape('synthesise_plane', ('width', 'height'), ('low', 'high', 'll', 'lh', 'hl', 'hh', 'plane', 'scratch'), (6, 7)),
+    23: Shape('compare_bands', ('width', 'height'), ('first', 'second'), ()),
+    24: Shape('large_plane', ('border', 'width', 'height'), ('low', 'high', 'block', 'digests'), (3,)),
 }
 ANALYSE, SYNTHESISE, CONVOLVE, BAND_LENGTH, LINE_LENGTH, ANALYSIS_SCRATCH, CONVOLUTION_SCRATCH, MIRROR = range(1, 9)
 PACKED_LENGTH, LEVELS_SCRATCH, RESTORING_LENGTH, MOST_LEVELS, LEVEL_PART, ANALYSE_LEVELS, RESTORE_LEVELS, READ_PLACE = range(9, 17)
+PLANE_BAND_WIDTH, PLANE_BAND_HEIGHT, PLANE_BAND_LENGTH, PLANE_SCRATCH, ANALYSE_PLANE, SYNTHESISE_PLANE, COMPARE_BANDS, LARGE_PLANE = range(17, 25)
+PLANE_SIZES = (PLANE_BAND_WIDTH, PLANE_BAND_HEIGHT, PLANE_BAND_LENGTH, PLANE_SCRATCH)
 
 if sys.byteorder != 'little' or array.array('Q').itemsize != 8:
     sys.exit('protocol.py: this machine is not little-endian with words of 64 bits')
@@ -132,7 +144,8 @@ def readable_result(who, case, result):
     for i, reach, data in zip(case.shape().lent, result.reaches, result.buffers):
         lines.append(readable_list(case.shape().lists[i], words_of(data)) + ' (changed up to %d)' % reach)
     if who == 'the Rust':
-        return lines + (['  it kept %d inner approximations' % result.flags] if result.flags else [])
+        beside = '  %d places become another number without clearing' if case.op == SYNTHESISE_PLANE else '  it kept %d inner approximations'
+        return lines + ([beside % result.flags] if result.flags else [])
     if result.flags & 1:
         lines.append('  a word outside the lists changed')
     if result.flags & 2:

@@ -1,12 +1,15 @@
 """Document 01's tests, from its text: which number answers a case and what it carries, and how far a done call may write its buffers.
 
-An answer is a tuple, the number first. NO_BORDER is the C interface's own, tested before everything else."""
-from protocol import (ANALYSE, ANALYSE_LEVELS, ANALYSIS_SCRATCH, BAND_LENGTH, BORDERS, CONVOLVE, CONVOLUTION_SCRATCH, LEVEL_PART, LEVELS_SCRATCH,
-                      LINE_LENGTH, MIRROR, MOST_LEVELS, PACKED_LENGTH, READ_PLACE, RESTORE_LEVELS, RESTORING_LENGTH, SYNTHESISE)
+An answer is a tuple, the number first. Two numbers are the C interface's own: NO_BORDER, tested before everything else, and DIFFER, told where two bands that passed every test differ."""
+from protocol import (ANALYSE, ANALYSE_LEVELS, ANALYSE_PLANE, ANALYSIS_SCRATCH, BAND_LENGTH, BORDERS, COMPARE_BANDS, CONVOLVE, CONVOLUTION_SCRATCH,
+                      LARGE_PLANE, LEVEL_PART, LEVELS_SCRATCH, LINE_LENGTH, MIRROR, MOST_LEVELS, ONE_NAN, PACKED_LENGTH, PLANE_BAND_HEIGHT,
+                      PLANE_BAND_LENGTH, PLANE_BAND_WIDTH, PLANE_SCRATCH, READ_PLACE, RESTORE_LEVELS, RESTORING_LENGTH, SYNTHESISE, SYNTHESISE_PLANE)
 
 LIMIT = 1048576
+MOST_OF_PLANE = 16777216
 MOST_TAPS = 64
 NO_BORDER = 26
+DIFFER = 27
 REFLECT101 = BORDERS.index('Reflect101')
 
 
@@ -236,6 +239,109 @@ def read_place(n, f, levels, level, place, packeds, _):
     return (23, place) if place >= part(n, f, levels, level)[1] else (0,)
 
 
+# --- planes: rows first, then columns, so that a band has as many columns as a row has pairs
+
+def plane_band(width, height, f):
+    """How many numbers each of the four bands has."""
+    return band(width, f) * band(height, f)
+
+
+def plane_need(width, height, f):
+    """The rows' bands, the same turned, and the longer padded line."""
+    return 4 * band(width, f) * height + max(padded_length(width, f), padded_length(height, f))
+
+
+def sides(width, height):
+    """7, then 11."""
+    if width == 0 or height == 0:
+        return 7,
+    if width > LIMIT or height > LIMIT or width * height > MOST_OF_PLANE:
+        return 11,
+    return 0,
+
+
+def plane_asked(width, height, f):
+    """12, then the sides."""
+    return (12,) if bad_taps(f) else sides(width, height)
+
+
+def plane_size(length):
+    def told(width, height, f):
+        asked = plane_asked(width, height, f)
+        return (0, length(width, height, f)) if asked == (0,) else asked
+    return told
+
+
+def plane_held(width, height, f, highs, planes, scratches):
+    """The same, then 10 for the plane and for the scratch."""
+    asked = (12,) if f != highs else plane_asked(width, height, f)
+    if asked != (0,):
+        return asked
+    if planes != width * height:
+        return 10, width * height, planes
+    if scratches < plane_need(width, height, f):
+        return 10, plane_need(width, height, f), scratches
+    return 0,
+
+
+def wrong_band(width, height, f, bands):
+    """2 for the first band that has another length."""
+    return next(((2, count) for count in bands if count != plane_band(width, height, f)), (0,))
+
+
+def analyse_plane(border, width, height, f, highs, planes, ll, lh, hl, hh, scratches):
+    if border >= len(BORDERS):
+        return NO_BORDER, border
+    held = plane_held(width, height, f, highs, planes, scratches)
+    if held != (0,):
+        return held
+    for side in (width, height):
+        if side < f:
+            return 1, side, f
+    return wrong_band(width, height, f, (ll, lh, hl, hh))
+
+
+def synthesise_plane(width, height, f, highs, ll, lh, hl, hh, planes, scratches):
+    held = plane_held(width, height, f, highs, planes, scratches)
+    if held != (0,):
+        return held
+    wrong = wrong_band(width, height, f, (ll, lh, hl, hh))
+    if wrong != (0,):
+        return wrong
+    for side in (height, width):
+        need = joined_length(band(side, f), f)
+        if side != need:
+            return 4, side, need
+    return 0,
+
+
+def large_plane(border, width, height, f, highs, blocks, digests):
+    """Analysis, then synthesis, every length as ruled."""
+    if bad_taps(f):
+        return 12,
+    bands, need = [plane_band(width, height, f)] * 4, plane_need(width, height, f)
+    there = analyse_plane(border, width, height, f, highs, width * height, *bands, need)
+    return synthesise_plane(width, height, f, highs, *bands, width * height, need) if there == (0,) else there
+
+
+def one_nan(word):
+    return ONE_NAN if word & (2**63 - 1) > 0x7FF0000000000000 else word
+
+
+def compare_bands(width, height, first, second):
+    """Told the bands themselves: column by column up to the first place where the bits differ, every NaN being one."""
+    asked = sides(width, height)
+    if asked != (0,):
+        return asked
+    for words in (first, second):
+        if len(words) != width * height:
+            return 10, width * height, len(words)
+    for place, (x, y) in enumerate(zip(first, second)):
+        if x != y and one_nan(x) != one_nan(y):
+            return DIFFER, place // height, place % height
+    return 0,
+
+
 TESTS = {
     ANALYSE: analyse,
     SYNTHESISE: synthesise,
@@ -253,12 +359,29 @@ TESTS = {
     ANALYSE_LEVELS: analyse_levels,
     RESTORE_LEVELS: restore_levels,
     READ_PLACE: read_place,
+    PLANE_BAND_WIDTH: plane_size(lambda width, height, f: band(width, f)),
+    PLANE_BAND_HEIGHT: plane_size(lambda width, height, f: band(height, f)),
+    PLANE_BAND_LENGTH: plane_size(plane_band),
+    PLANE_SCRATCH: plane_size(plane_need),
+    ANALYSE_PLANE: analyse_plane,
+    SYNTHESISE_PLANE: synthesise_plane,
+    LARGE_PLANE: large_plane,
 }
 
 
 def answer(case):
     """The number that document 01 gives to the case, and what it carries."""
+    if case.op == COMPARE_BANDS:
+        return compare_bands(*case.scalars, *case.lists)
     return TESTS[case.op](*case.scalars, *case.counts)
+
+
+def unsaid(case):
+    """How many places at the front of each lent buffer document 01 leaves open after a done call: a plane's scratch within its need."""
+    fronts = [0] * len(case.shape().lent)
+    if case.op in (ANALYSE_PLANE, SYNTHESISE_PLANE):
+        fronts[-1] = plane_need(*case.scalars[-2:], case.counts[0])
+    return fronts
 
 
 def may_reach(case):
@@ -273,4 +396,6 @@ def may_reach(case):
         reaches[-1] = first_scratch(case.counts[2], case.counts[0])
     if case.op == RESTORE_LEVELS:
         reaches = [first_joined(case.scalars[0], case.counts[0])] * 2
+    if case.op in (ANALYSE_PLANE, SYNTHESISE_PLANE):
+        reaches[-1] = unsaid(case)[-1]
     return reaches

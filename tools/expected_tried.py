@@ -1,4 +1,4 @@
-"""expected_tried PROGRAM: prints what `tried`, `tried_sums`, `tried_refusals`, `tried_exact` or `tried_levels` has to write, from document 01's rules and numbers alone.
+"""expected_tried PROGRAM: prints what `tried`, `tried_sums`, `tried_refusals`, `tried_exact`, `tried_levels` or `tried_planes` has to write, from document 01's rules and numbers alone.
 
     python3 tools/expected_tried.py tried | diff - crates/tried/stdout
 
@@ -782,5 +782,251 @@ top = 1048576
 for name, want, levels, p, a, b in (('21 levels', (9,), 21, top, top, top), ('20 levels, packed short', (10, top, top - 1), 20, top - 1, top - 1, top - 1),
         ('20 levels, both short', (5, top, top - 1), 20, top, top - 1, top - 2), ('20 levels, the second short', (5, top, top - 2), 20, top, top, top - 2), ('20 levels', (0,), 20, top, top, top)):
     told('1048576 samples, ' + name, want, restoring_answer(1048576, 2, levels, p, a, b))
+
+# --- planes: rows first, then columns; every band column by column
+program = 'tried_planes'
+LARGEST = 16777216
+def padded_length(n, f): return n + (2 * pairs(n, f) + f - 2 - n)
+def plane_need(w, h, f): return 4 * pairs(w, f) * h + max(padded_length(w, f), padded_length(h, f))
+def plane_asked(w, h, f):
+    if bad(f): return (12,)
+    if w == 0 or h == 0: return (7,)
+    if w > LIMIT or h > LIMIT or w * h > LARGEST: return (11,)
+    return (0,)
+def plane_held(w, h, f, p, s):
+    r = plane_asked(w, h, f)
+    if r != (0,): return r
+    if p != w * h: return (10, w * h, p)
+    if s < plane_need(w, h, f): return (10, plane_need(w, h, f), s)
+    return (0,)
+def bands_held(w, h, f, four):
+    for l in four:
+        if l != pairs(w, f) * pairs(h, f): return (2, l)
+    return (0,)
+def plane_analysis_answer(w, h, f, p, s, four):
+    r = plane_held(w, h, f, p, s)
+    if r != (0,): return r
+    if w < f: return (1, w, f)
+    if h < f: return (1, h, f)
+    return bands_held(w, h, f, four)
+def plane_synthesis_answer(w, h, f, p, s, four):
+    r = plane_held(w, h, f, p, s)
+    if r == (0,): r = bands_held(w, h, f, four)
+    if r != (0,): return r
+    for n in (h, w):
+        back_to = 2 * pairs(n, f) - f + 2
+        if n != back_to: return (4, n, back_to)
+    return (0,)
+def both_bands(bank, line):
+    m = pairs(len(line), bank.f)
+    r, a, d, s = analyse(bank, line, sevens(m), sevens(m), sevens(padded_length(len(line), bank.f)))
+    assert r == (0,)
+    return a, d
+def columns_of(rows): return [list(c) for c in zip(*rows)]
+def run_together(lines): return [x for line in lines for x in line]
+# Row by row to approximations and details, then each column of both; a column's band follows the band of the column before.
+def analyse_plane(bank, plane, w, h, four, s):
+    r = plane_analysis_answer(w, h, bank.f, len(plane), len(s), [len(x) for x in four])
+    if r != (0,): return r, four
+    rows = [both_bands(bank, plane[i * w:i * w + w]) for i in range(h)]
+    lows = [both_bands(bank, c) for c in columns_of([a for a, d in rows])]
+    highs = [both_bands(bank, c) for c in columns_of([d for a, d in rows])]
+    return r, [run_together(x) for x in ([a for a, d in lows], [d for a, d in lows], [a for a, d in highs], [d for a, d in highs])]
+def joined_line(bank, a, d, n):
+    r, out = synthesise(bank, a, d, [0.0] * n)
+    assert r == (0,)
+    return out
+def synthesise_plane(bank, four, w, h, plane, s):
+    r = plane_synthesis_answer(w, h, bank.f, len(plane), len(s), [len(x) for x in four])
+    if r != (0,): return r, plane
+    m, B = pairs(w, bank.f), pairs(h, bank.f)
+    def column(x, c): return x[c * B:c * B + B]
+    approximations = columns_of([joined_line(bank, column(four[0], c), column(four[1], c), h) for c in range(m)])
+    details = columns_of([joined_line(bank, column(four[2], c), column(four[3], c), h) for c in range(m)])
+    return r, run_together([joined_line(bank, approximations[i], details[i], w) for i in range(h)])
+# After a refusal the scratch is as it was; else only what lies beyond the need is promised.
+def left_of(r, w, h, f, s):
+    if r == (0,): buf('beyond', s[plane_need(w, h, f):])
+    else: buf('scratch', s)
+def split_plane(name, bank, plane, w, h, four, s):
+    head(name)
+    r, four = analyse_plane(bank, plane, w, h, four, s)
+    answer(r)
+    for label, x in zip(('LL', 'LH', 'HL', 'HH'), four): buf(label, x)
+    left_of(r, w, h, bank.f, s)
+    return r, four
+def join_plane(name, bank, four, w, h, plane, s):
+    head(name)
+    r, plane = synthesise_plane(bank, four, w, h, plane, s)
+    answer(r); buf('plane', plane); left_of(r, w, h, bank.f, s)
+    return r, plane
+
+def plane_sizes(w, h, f):
+    r = plane_asked(w, h, f)
+    def size(entry, l):
+        head('%s %d %d %d' % (entry, w, h, f))
+        answer((0, l) if r == (0,) else r)
+        return l if r == (0,) else r
+    return (size('plane_band_width', pairs(w, f)), size('plane_band_height', pairs(h, f)),
+        size('plane_band_length', pairs(w, f) * pairs(h, f)), size('plane_scratch', plane_need(w, h, f)))
+assert plane_sizes(4, 4, 2) == (2, 2, 4, 36)
+assert plane_sizes(5, 3, 2) == (3, 2, 6, 42)
+for w, h, f in ((3, 5, 2), (5, 4, 4), (4, 5, 4), (2, 3, 4), (1, 1, 2), (1, 1, 64), (4096, 4096, 64), (LIMIT, 16, 2), (16, LIMIT, 64)): plane_sizes(w, h, f)
+for want, w, h, f in ((12, 4, 4, 0), (12, 4, 4, 3), (12, 0, LIMIT + 1, 65), (12, LIMIT + 1, 0, 66), (12, 4, 4, HUGE), (7, 0, 4, 2), (7, 4, 0, 2), (7, 0, LIMIT + 1, 2), (7, HUGE, 0, 2),
+        (11, LIMIT + 1, 1, 2), (11, 1, LIMIT + 1, 2), (11, LIMIT, 17, 2), (11, 4097, 4096, 2), (11, HUGE, HUGE, 2)): assert plane_sizes(w, h, f) == ((want,),) * 4
+
+# --- analyses of planes
+def four_of(x, l): return [[x] * l for _ in range(4)]
+def planed(name, bank, plane, w, h, l, s, held=7.0):
+    r, four = split_plane(name, bank, plane, w, h, four_of(held, l), [held] * s)
+    assert r == (0,), (name, r)
+    return four
+p11 = counted_up(16)
+p11_bands = [[14, 46, 22, 54], [-8] * 4, [-2] * 4, [0] * 4]
+for b in BORDERS: assert planed('P11: 4 by 4, ' + b, two_tapped(b), p11, 4, 4, 4, 38) == p11_bands
+fifteen = [1.0, 2.0, 4.0, 8.0, 16.0, 3.0, 9.0, 27.0, 81.0, 243.0, 5.0, 25.0, 125.0, 625.0, 3125.0]
+def five_by_three(name, b, held=7.0): return planed('5 by 3, ' + name, Bank([1.0, 2.0], [3.0, -5.0], b), fifteen, 5, 3, 6, 44, held)
+of_borders = {b: five_by_three(b, b) for b in BORDERS}
+# By hand, Zeros: the rows are 1 2 4 8 16 +0, 3 9 27 81 243 +0 and 5 25 125 625 3125 +0, and below them a row of zeros.
+assert of_borders['Zeros'] == [[47, 55, 398, 1375, 502, 3125], [-90, 165, -885, 4125, -1167, 9375], [-79, -110, -676, -2750, 1506, 9375], [159, -330, 1536, -8250, -3501, 28125]]
+assert of_borders['Wrap'] == five_by_three('NaN in every buffer', 'Wrap', NAN) == five_by_three('infinity in every buffer', 'Wrap', INF)
+twenty = [1.0, 2.0, 3.0, 4.0, 5.0, 10.0, 20.0, 30.0, 40.0, 50.0, -1.0, 7.0, -3.0, 9.0, -5.0, 6.0, 0.0, 8.0, 0.0, 2.0]
+def by_four(name, b, w, h, s): planed(name, Bank(tens, apart, b), twenty, w, h, 12, s)
+for b in BORDERS: by_four('5 by 4, ' + b, b, 5, 4, 75)
+for b in ('Wrap', 'Reflect'): by_four('4 by 5, ' + b, b, 4, 5, 71)
+by_four('4 by 5, just the scratch that is needed', 'Reflect101', 4, 5, 70)
+planed('infinity and NaN', parted, [1.0, INF, 2.0, 3.0, NAN, 4.0, -INF, 5.0], 4, 2, 2, 20)
+planed('nothing but -0', parted, [-0.0] * 8, 4, 2, 2, 20)
+
+# --- planes there and back
+def plane_back(name, bank, plane, w, h, s, held=7.0):
+    four = planed(name, bank, plane, w, h, pairs(w, bank.f) * pairs(h, bank.f), s, held)
+    r, came = join_plane('and back', bank, four, w, h, [held] * (w * h), [held] * s)
+    assert r == (0,)
+    return four, came
+def times(k, plane): return [k * x for x in plane]
+for name, held in (('sevens', 7.0), ('NaN', NAN), ('infinity', INF)):
+    assert plane_back('P11, buffers with ' + name, two_tapped('Clamp'), p11, 4, 4, 39, held) == (p11_bands, times(4, p11))
+up = counted_up(24)
+assert plane_back('4 by 6, taps 1 2', Bank([1.0, 2.0], [2.0, -1.0], 'Zeros'), up, 4, 6, 55) == (
+    [[39, 111, 183, 57, 129, 201], [-7, 17, 41, -1, 23, 47], [8, 32, 56, 14, 38, 62], [-4, 4, 12, -2, 6, 14]], times(25, up))
+pi24 = [3.0, -1.0, 4.0, -1.0, 5.0, -9.0, 2.0, -6.0, 5.0, -3.0, 5.0, -8.0, 9.0, -7.0, 9.0, -3.0, 2.0, -3.0, 8.0, -4.0, 6.0, -2.0, 6.0, -4.0]
+for b in BORDERS: assert plane_back('four halves, ' + b, Bank(lowh, mirror(lowh), b), pi24, 4, 6, 83)[1] == pi24
+def stepped(n, over): return [float(i * 37 % 101) / over for i in range(n)]
+plane_back('fractions, six taps, 8 by 6', sixed, stepped(48, 10.0), 8, 6, 161)
+assert plane_back('18 by 10', two_tapped('Wrap'), stepped(180, 1.0), 18, 10, 380)[1] == times(4, stepped(180, 1.0))
+
+# --- planes of bands
+def of_bands(name, bank, four, w, h, p, s, held=7.0):
+    r, plane = join_plane(name, bank, four, w, h, [held] * p, [held] * s)
+    assert r == (0,)
+    return plane
+ups = [times(k, counted_up(6)) for k in (1, 10, 100, 1000)]
+came = of_bands('4 by 6 of four bands', Bank([1.0, 2.0], [3.0, -5.0], 'Zeros'), ups, 4, 6, 24, 56)
+# By hand, first column, first pair of each band: LL and LH give 3 10 + 1 and -5 10 + 2, HL and HH 3100 and -4800; so the first rows begin 31 + 9300 and 62 - 15500, -48 - 14400 and -96 + 24000.
+assert [came[0], came[1], came[4], came[5]] == [9331, -15438, -14448, 23904]
+halved = [counted_up(6), times(4, counted_up(6)), [1.0, -2.0, 3.0, -4.0, 5.0, -6.0], [8.0, 7.0, 6.0, 5.0, 4.0, 3.0]]
+of_bands('4 by 2, four taps', q, halved, 4, 2, 8, 33)
+assert of_bands('2 by 4, four taps', q, halved, 2, 4, 8, 41) == of_bands('2 by 4, NaN in target and scratch', q, halved, 2, 4, 8, 41, NAN)
+assert [hexed(x) for x in of_bands('bands of -0 onto -0', Bank([1.0] * 2, [1.0] * 2, 'Zeros'), four_of(-0.0, 2), 2, 4, 8, 20, -0.0)] == ['0' * 16] * 8
+# 32 pairs reach each place, the high taps with the sign of its parity.
+assert of_bands('2 by 2, 64 taps', Bank(ones, mirror(ones), 'Wrap'), [[float(x)] * 1024 for x in (1, 2, 3, 5)], 2, 2, 4, 384) == times(1024, [11, -5, -3, 1])
+
+# --- refused planes
+def plane_lent(name, want, f, w, h, p, lengths, s):
+    r, four = split_plane(name, counted(f), [1.0] * p, w, h, [sevens(l) for l in lengths], sevens(s))
+    assert r == want and four == [sevens(l) for l in lengths], (name, r)
+def target_lent(name, want, f, w, h, lengths, p, s):
+    r, plane = join_plane(name, counted(f), [[1.0] * l for l in lengths], w, h, sevens(p), sevens(s))
+    assert r == want and plane == sevens(p), (name, r)
+one_each, over = (1, 1, 1, 1), LIMIT + 1
+first_tests = (('no taps, nothing lent', (12,), 0, 0, 0), ('3 taps, no width, all wrong', (12,), 3, 0, 4), ('66 taps, past the limit, all wrong', (12,), 66, over, 4),
+    ('no width, all wrong', (7,), 4, 0, over), ('no height, all wrong', (7,), 4, over, 0), ('1048577 wide, all wrong', (11,), 4, over, 1), ('1048577 high, all wrong', (11,), 4, 1, over),
+    ('4097 by 4096, all wrong', (11,), 4, 4097, 4096))
+def lent_for(name): return (0, (0,) * 4, 0) if 'nothing' in name else (3, one_each, 1)
+for name, want, f, w, h in first_tests:
+    p, lengths, s = lent_for(name)
+    plane_lent(name, want, f, w, h, p, lengths, s)
+plane_lent('plane a place short, all wrong', (10, 6, 5), 4, 3, 2, 5, one_each, 1)
+plane_lent('plane a place too long, all wrong', (10, 6, 7), 4, 3, 2, 7, one_each, 1)
+plane_lent('scratch a place short, all wrong', (10, 32, 31), 4, 3, 2, 6, one_each, 31)
+plane_lent('narrow and low, no band right', (1, 3, 4), 4, 3, 2, 6, one_each, 32)
+plane_lent('low, no band right', (1, 2, 4), 4, 4, 2, 8, one_each, 32)
+plane_lent('no band right', (2, 3), 2, 4, 4, 16, (3, 5, 6, 0), 36)
+plane_lent('LH a place too long, HL and HH wrong', (2, 5), 2, 4, 4, 16, (4, 5, 6, 0), 36)
+plane_lent('HL two places too long, HH wrong', (2, 6), 2, 4, 4, 16, (4, 4, 6, 0), 36)
+plane_lent('no HH', (2, 0), 2, 4, 4, 16, (4, 4, 4, 0), 36)
+def plane_limits(entry):
+    for name, want, w, h, f, p, s, l in (('1048576 by 16, plane and scratch short', (10, LARGEST, LARGEST - 1), LIMIT, 16, 2, LARGEST - 1, 34603007, 4194304),
+            ('1048576 by 16, scratch short', (10, 34603008, 34603007), LIMIT, 16, 2, LARGEST, 34603007, 4194304), ('1048576 by 16, bands short', (2, 4194303), LIMIT, 16, 2, LARGEST, 34603008, 4194303),
+            ('1048576 by 16', (0,), LIMIT, 16, 2, LARGEST, 34603008, 4194304), ('16 by 1048576', (0,), 16, LIMIT, 2, LARGEST, 34603008, 4194304),
+            ('4096 by 4096, 64 taps', (0,), 4096, 4096, 64, LARGEST, 34066556, 4322241), ('18446744073709551615 by 18446744073709551615', (11,), HUGE, HUGE, 2, 1, 1, 1)):
+        told(name, want, entry(w, h, f, p, s, (l,) * 4))
+plane_limits(plane_analysis_answer)
+for name, want, f, w, h in first_tests:
+    p, lengths, s = lent_for(name)
+    target_lent(name, want, f, w, h, lengths, p, s)
+target_lent('target a place short, all wrong', (10, 15, 14), 2, 5, 3, one_each, 14, 1)
+target_lent('target a place too long, all wrong', (10, 15, 16), 2, 5, 3, one_each, 16, 1)
+target_lent('scratch a place short, all wrong', (10, 42, 41), 2, 5, 3, one_each, 15, 41)
+target_lent('no band right, sides odd', (2, 5), 2, 5, 3, (5, 7, 8, 0), 15, 42)
+target_lent('LH a place too long, HL and HH wrong, sides odd', (2, 7), 2, 5, 3, (6, 7, 8, 0), 15, 42)
+target_lent('HL two places too long, HH wrong, sides odd', (2, 8), 2, 5, 3, (6, 6, 8, 0), 15, 42)
+target_lent('no HH, sides odd', (2, 0), 2, 5, 3, (6, 6, 6, 0), 15, 42)
+target_lent('both sides odd', (4, 3, 4), 2, 5, 3, (6,) * 4, 15, 42)
+target_lent('the height odd', (4, 3, 4), 2, 4, 3, (4,) * 4, 12, 29)
+target_lent('the width odd', (4, 5, 6), 2, 5, 4, (6,) * 4, 20, 54)
+target_lent('sides odd and below the taps', (4, 1, 2), 4, 3, 1, (6,) * 4, 3, 20)
+plane_limits(plane_synthesis_answer)
+
+# --- comparing bands: 0 and nothing is equal, 0 with a column and a row the first place that differs
+def comparing_answer(w, h, a, b):
+    if w == 0 or h == 0: return (7,)
+    if w > LIMIT or h > LIMIT or w * h > LARGEST: return (11,)
+    for have in (a, b):
+        if have != w * h: return (10, w * h, have)
+    return (0,)
+def compare(name, want, first, second, w, h):
+    r = comparing_answer(w, h, len(first), len(second))
+    if r == (0,):
+        differing = [(c, i) for c in range(w) for i in range(h) if hexed(first[c * h + i]) != hexed(second[c * h + i])]
+        if differing: r = (0,) + differing[0]
+    assert r == want, (name, r)
+    head(name); answer(r)
+six6, apart6 = counted_up(6), [1.0, 2.0, 0.0, 4.0, 0.0, 6.0]
+last6 = counted_up(5) + [0.0]
+compare('equal', (0,), six6, six6, 2, 3)
+compare('the first place and the last', (0, 0, 0), six6, [0.0] + last6[1:], 2, 3)
+compare('the third and the fifth, two columns', (0, 0, 2), six6, apart6, 2, 3)
+compare('the third and the fifth, three columns', (0, 1, 0), six6, apart6, 3, 2)
+compare('the second column first', (0, 1, 0), six6, [1.0, 2.0, 3.0, 0.0, 5.0, 6.0], 2, 3)
+compare('the last place', (0, 1, 2), six6, last6, 2, 3)
+compare('one column, the last row', (0, 0, 5), six6, last6, 1, 6)
+compare('one row, the last column', (0, 5, 0), six6, last6, 6, 1)
+compare('NaN and another NaN', (0, 0, 1), [NAN, 1.0], [INF - INF, 2.0], 1, 2)
+compare('NaN and -NaN, and no more', (0,), [NAN], [-NAN], 1, 1)
+compare('NaN and 1', (0, 0, 0), [NAN], [1.0], 1, 1)
+compare('1 and NaN', (0, 0, 0), [1.0], [NAN], 1, 1)
+compare('NaN and infinity', (0, 0, 0), [NAN], [INF], 1, 1)
+compare('+0 and -0', (0, 1, 0), [1.0, 0.0], [1.0, -0.0], 2, 1)
+compare('-0 and +0', (0, 1, 0), [1.0, -0.0], [1.0, 0.0], 2, 1)
+compare('-0 and -0', (0,), [-0.0], [-0.0], 1, 1)
+compare('infinities', (0, 0, 1), [INF, -INF], [INF, INF], 1, 2)
+compare('1 and what is next', (0, 0, 0), [1.0], [1 + 2.0 ** -52], 1, 1)
+compare('nothing at all', (7,), [], [], 0, 0)
+compare('no columns, all wrong', (7,), six6, [], 0, over)
+compare('no rows, all wrong', (7,), six6, [], HUGE, 0)
+compare('1048577 columns, all wrong', (11,), six6, [], over, 1)
+compare('1048577 rows, all wrong', (11,), six6, [], 1, over)
+compare('4097 columns of 4096, all wrong', (11,), six6, [], 4097, 4096)
+compare('both bands wrong', (10, 4, 6), six6, [], 2, 2)
+compare('the first band short', (10, 6, 5), [1.0] * 5, six6, 2, 3)
+compare('the second band long, where they differ', (10, 2, 6), [0.0, 2.0], six6, 2, 1)
+compare('no second band', (10, 6, 0), six6, [], 2, 3)
+told('1048576 columns of 16', (0,), comparing_answer(LIMIT, 16, LARGEST, LARGEST))
+told('1048576 columns of 16, the first short', (10, LARGEST, LARGEST - 1), comparing_answer(LIMIT, 16, LARGEST - 1, LARGEST - 1))
+told('1048576 columns of 16, the second long', (10, LARGEST, LARGEST + 1), comparing_answer(LIMIT, 16, LARGEST, LARGEST + 1))
+told('1048576 columns of 17', (11,), comparing_answer(LIMIT, 17, 1, 1))
+told('18446744073709551615 of as many', (11,), comparing_answer(HUGE, HUGE, 1, 1))
 
 sys.stdout.write('\n'.join(texts[sys.argv[1]]) + '\n')

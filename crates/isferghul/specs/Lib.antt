@@ -1,11 +1,4 @@
--- The interface for C. Definitions, what each export promises: Sizes, Lines, Levels, Packing. Laws: Pairs, Calls, LevelCalls, Mirrors, Unique, Same.
+-- The interface for C. Definitions, what the exports promise that tell one entry's answer: Sizes, Levels, Planes. What the others promise stands with line_calls, level_calls and plane_calls.
 pub mod Sizes
-pub mod Lines
 pub mod Levels
-pub mod Packing
-pub mod Pairs
-pub mod Calls
-pub mod LevelCalls
-pub mod Mirrors
-pub mod Unique
-pub mod Same
+pub mod Planes

@@ -3,5 +3,6 @@ pub mod depths;
 pub mod lines;
 pub mod packing;
 pub mod places;
+pub mod planar;
 pub mod sizes;
 pub mod taps;

@@ -1,17 +1,7 @@
-// A line over levels and back, for C: the entries' tests and work over the caller's own taps, so that no bank is made and copied in a call.
-ghost use mathlib.Core.Path.{_≡_};
-ghost use Rattle.isferghul.specs.Packing.{holder, LevelsTold, RestoringTold};
-use crate::taps::taps_of;
-use border::pad::copy_to;
-use levels::levels_answer;
-use levels::work::split;
-use numbers::most;
-use packed::depth::restoring_need;
-use restoring::restoring_answer;
-use restoring::work::restore;
-use telling::borders::border_of;
-use telling::borders::no_border;
-use telling::told;
+// A line over levels and back, for C.
+ghost use Rattle.level_calls.specs.Packing.{LevelsTold, RestoringTold};
+use level_calls::analyse_levels;
+use level_calls::restore_levels;
 
 #[no_mangle]
 pub extern "C" fn isferghul_analyse_levels(
@@ -27,40 +17,7 @@ pub extern "C" fn isferghul_analyse_levels(
     ensures { λ r. ⌜ LevelsTold border (now (low .entry)) (now (high .entry)) (now (line .entry)) levels (now (packed .entry)) (now (scratch .entry)) (now (carried .entry))
         r (now (packed .exit)) (now (scratch .exit)) (now (carried .exit)) ⌝ }
 {
-    if no_border(border) {
-        return told::one(26, border, carried);
-    }
-    let f = taps_of(low.len(), high.len());
-    let answer = levels_answer(line.len(), f, levels, packed.len(), scratch.len());
-    let number = told::levels(answer, carried);
-    if number != 0 {
-        return number;
-    }
-    let mut l = [0.0f64; 64];
-    let mut h = [0.0f64; 64];
-    copy_to(low, &mut l, 0);
-    copy_to(high, &mut h, 0);
-    split(
-        &l,
-        &h,
-        f,
-        border_of(border),
-        line,
-        most(levels, 1),
-        packed,
-        scratch,
-    );
-    0
-}
-
-// The buffer that the line comes to stand in: the first of two for an odd number of levels, else the second.
-fn holder_of(levels: usize) -> usize
-    ensures { λ r. ⌜ r ≡ holder levels ⌝ }
-{
-    if most(levels, 1) % 2 == 0 {
-        return 2;
-    }
-    1
+    analyse_levels(border, low, high, line, levels, packed, scratch, carried)
 }
 
 // No border: restoring reads none.
@@ -78,16 +35,5 @@ pub extern "C" fn isferghul_restore_levels(
     ensures { λ r. ⌜ RestoringTold (now (low .entry)) (now (high .entry)) (now (packed .entry)) n levels (now (first .entry)) (now (second .entry)) (now (carried .entry))
         r (now (first .exit)) (now (second .exit)) (now (carried .exit)) ⌝ }
 {
-    let f = taps_of(low.len(), high.len());
-    let answer = restoring_answer(n, f, levels, packed.len(), first.len(), second.len());
-    let number = told::levels(answer, carried);
-    if number != 0 {
-        return number;
-    }
-    let mut l = [0.0f64; 64];
-    let mut h = [0.0f64; 64];
-    copy_to(low, &mut l, 0);
-    copy_to(high, &mut h, 0);
-    restore(&l, &h, f, packed, n, most(levels, 1), first, second);
-    told::two(0, holder_of(levels), restoring_need(n, f), carried)
+    restore_levels(low, high, packed, n, levels, first, second, carried)
 }

@@ -10,7 +10,7 @@ use lib.ListN.{length, take, drop}
 use lib.Ieee.{Float}
 use mathlib.Core.List.{List, []}
 use Rattle.numbers.specs.Words.{longest, whenDone}
-use Rattle.numbers.specs.Tests.{passed, refused, kept, stopped-by, went-on-by, both-done-by}
+use Rattle.numbers.specs.Tests.{passed, kept, stopped-by, went-on-by, both-done-by}
 use Rattle.bank.specs.Lengths.{badTaps, pairs, Analysable}
 use Rattle.bank.specs.Tested.{good-taps}
 use Rattle.packed.specs.declared.Levels.{Levels}

@@ -5,3 +5,4 @@ pub mod Works
 pub mod Steps
 pub mod Tested
 pub mod Unique
+pub mod Taps

@@ -1,16 +1,16 @@
 -- Laws of a plane's analysis: a row's bands carry the table of rows one row further, a column's bands each band one column further, and the columns of the table's crossing are those of the rows' bands.
-use mathlib.Core.Path.{_≡_, refl, sym, ap, subst, _∙_}
+use mathlib.Core.Path.{_≡_, refl, sym, ap, _∙_}
 use mathlib.Core.List.{List, [], _++_, append-nil}
-use Prim.Native.Nat.{ℕ, _+_, _-_, _*_, _≤_, _<_, max}
-use native.Mathlib.Nat.{mul-comm, mul-add, add-mul, mul-le-mul-right}
+use Prim.Native.Nat.{ℕ, _+_, _-_, _*_, _≤_, _<_}
+use native.Mathlib.Nat.{mul-comm, mul-add, add-mul}
 use native.Mathlib.Omega.{arith}
 use lib.ListN.{length, take, drop, length-append, length-drop, take-append-drop, List·getD-append}
-use lib.Seq.{length-take-le, take-at, drop-at, take-add, drop-drop, drop-nil, getD-append-add}
-use lib.Ieee.{Float, nan, Format, binary64}
+use lib.Seq.{length-take-le, take-add, drop-drop, drop-nil, getD-append-add}
+use lib.Ieee.{Float, nan, Format}
 use borrow.Rule.Slice.PartMut.{putMid}
 use Rattle.numbers.specs.Words.{plusZero, at, tab, written, placed}
 use Rattle.numbers.specs.Write.{tab-getD, length-written, length-placed, take-placed, part-placed}
-use Rattle.numbers.specs.Places.{lent-length, take-lent, part-lent, drop-lent, drop-behind, drop-further, front-at, part-ext}
+use Rattle.numbers.specs.Places.{lent-length, take-lent, part-lent, drop-lent, drop-behind, front-at, part-ext}
 use Rattle.border.specs.declared.Border.{Border}
 use Rattle.border.specs.Rule.{padded}
 use Rattle.bank.specs.Lengths.{pairs, paddedLength}
@@ -20,7 +20,7 @@ use Rattle.analysis.specs.Taps.{length-band, of-samples}
 use Rattle.tables.specs.Tables.{lineOf, stored, crossing, crossed}
 use Rattle.tables.specs.Works.{Crossable}
 use Rattle.tables.specs.Crosses.{crossings}
-use Rattle.tables.specs.Stored.{one-more, line-end, stored-none, stored-more, stored-same, length-stored, line-stored, length-crossing, crossing-same}
+use Rattle.tables.specs.Stored.{one-more, line-end, stored-none, stored-more, stored-same, stored-at, line-stored, length-crossing, crossing-same}
 use Rattle.plane_analysis.specs.Bands.{rowBand, columnBand, planeBand}
 use Rattle.plane_analysis.specs.Works.{rowBands, lineBands, Rowed, Still}
 
@@ -32,10 +32,10 @@ module _ (g : Format) (low high : List Float) (F : ℕ) (b : Border) (plane : Li
   length-row : (r : ℕ) → r < h → length (lineOf w plane r) ≡ w
   length-row r l = length-take-le w (drop (r * w) plane) (omega (arith, length-drop (r * w) plane, ep, line-end w l))
 
-  pub length-row-band : (taps : List Float) (r : ℕ) → r < h → length (rowBand g taps F b plane w r) ≡ m
+  length-row-band : (taps : List Float) (r : ℕ) → r < h → length (rowBand g taps F b plane w r) ≡ m
   length-row-band taps r l = length-band g taps F b (lineOf w plane r) ∙ ap (λ (n : ℕ). pairs n F) (length-row r l) ∙ sym em
 
-  pub length-both : (r : ℕ) → r < h → length (both r) ≡ m + m
+  length-both : (r : ℕ) → r < h → length (both r) ≡ m + m
   length-both r l = length-append (rowBand g low F b plane w r) (rowBand g high F b plane w r) ∙ omega (arith, length-row-band low r l, length-row-band high r l)
 
   -- no row
@@ -220,3 +220,11 @@ module _ (g : Format) (low high : List Float) (F : ℕ) (b : Border) (plane : Li
       further : (c : ℕ) → lineOf h (drop (A + m * h) s) c ≡ lineOf h (drop A s) (m + c)
       further c =
           ap (take h) (drop-drop (c * h) (A + m * h) s ∙ ap (λ (k : ℕ). drop k s) (let z : A + m * h + c * h ≡ A + (m + c) * h = omega (arith, add-mul m c h) in z) ∙ sym (drop-drop ((m + c) * h) A s))
+
+-- ---- where a place of a band stands: with B places in a column, place r of column c at c B + r
+pub place-of : (g : Format) (across down : List Float) (F : ℕ) (b : Border) (plane : List Float) (w h c r : ℕ) → c < pairs w F → r < pairs h F
+    → at (planeBand g across down F b plane w h) (c * pairs h F + r) ≡ at (columnBand g across down F b plane w h c) r
+unfolding planeBand
+place-of g across down F b plane w h c r l k =
+    stored-at (columnBand g across down F b plane w h) (pairs h F) (pairs w F)
+    (λ i q. length-band g down F b _ ∙ ap (λ (n : ℕ). pairs n F) (length-crossing (rowBand g across F b plane w) h i)) c r l k

@@ -1,5 +1,5 @@
--- Laws of the tests: an answer is done where every test passed, which gives each part of the work what it asks for.
-use mathlib.Core.Path.{_≡_, refl, sym, ap, _∙_}
+-- Laws of the tests and of the whole: an answer is done where every test passed, which gives each part of the work what it asks for, and the parts together are the four bands.
+use mathlib.Core.Path.{_≡_, refl, ap, _∙_}
 use Prim.Native.Nat.{ℕ, _+_, _*_, _≤_}
 use native.Mathlib.Nat.{mul-comm}
 use native.Mathlib.Omega.{arith}
@@ -11,7 +11,7 @@ use mathlib.Core.List.{List}
 use Rattle.numbers.specs.Tests.{passed}
 use Rattle.numbers.specs.Places.{drop-further}
 use Rattle.border.specs.declared.Border.{Border}
-use Rattle.bank.specs.Lengths.{pairs, paddedLength, Analysable}
+use Rattle.bank.specs.Lengths.{pairs, paddedLength}
 use Rattle.planes.specs.declared.Planes.the-variants.{Done}
 use Rattle.planes.specs.Lengths.{bandLength, planeScratch}
 use Rattle.planes.specs.Answers.{numberOf, heldOf}

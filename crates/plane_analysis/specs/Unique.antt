@@ -1,5 +1,5 @@
 -- Laws of what the entries promise: any two outcomes that a promise admits have one answer and the same bands, and the scratch is one as far as it is said.
-use mathlib.Core.Path.{_≡_, refl, sym, ap, subst, _∙_}
+use mathlib.Core.Path.{_≡_, sym, subst, _∙_}
 use mathlib.Core.List.{List}
 use Prim.Native.Nat.{ℕ, _<_}
 use lib.ListN.{length, drop}
@@ -9,7 +9,7 @@ use Rattle.planes.specs.declared.Planes.{Planes}
 use Rattle.planes.specs.Lengths.{planeScratch}
 use Rattle.planes.specs.Answers.{numberOf, Scratched}
 use Rattle.planes.specs.Unique.{unique-scratch}
-use Rattle.plane_analysis.specs.Analyses.{answerOf, Analysed}
+use Rattle.plane_analysis.specs.Analyses.{Analysed}
 
 pub unique-analyse-plane : {bank : Bank} {plane : List Float} {w h : ℕ} {ll lh hl hh scratch : List Float} {r r′ : Planes} {a b c d s a′ b′ c′ d′ s′ : List Float}
     → Analysed bank plane w h ll lh hl hh scratch r a b c d s → Analysed bank plane w h ll lh hl hh scratch r′ a′ b′ c′ d′ s′
@@ -19,6 +19,3 @@ unique-analyse-plane {bank} {plane} {w} {h} {ll} {lh} {hl} {hh} {scratch} {r} {r
     let e = p .answer ∙ sym (q .answer) in
     let u = unique-scratch (p .scratched) (subst (λ (a : Planes). Scratched (numberOf a) (planeScratch w h (bank .taps)) scratch s′) (sym e) (q .scratched)) in
     (e, (cc), (cc), (cc), (cc), u .0, u .1, u .2)
-
-pub unique-plane-analysis-answer : (w h f p s ll lh hl hh : ℕ) {r r′ : Planes} → r ≡ answerOf w h f p s ll lh hl hh → r′ ≡ answerOf w h f p s ll lh hl hh → r ≡ r′
-unique-plane-analysis-answer w h f p s ll lh hl hh e q = e ∙ sym q

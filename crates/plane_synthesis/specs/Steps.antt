@@ -5,7 +5,7 @@ use Prim.Native.Nat.{ℕ, _+_, _-_, _*_, _%_, _≤_, _<_}
 use native.Mathlib.Nat.{mul-comm}
 use native.Mathlib.Omega.{arith}
 use lib.ListN.{length, take, drop, length-drop}
-use lib.Seq.{length-take-le, take-at, drop-at, take-add, take-take, drop-drop}
+use lib.Seq.{length-take-le, take-length, take-at, drop-at, take-add, take-take, drop-drop}
 use lib.Ieee.{Float, Format}
 use Rattle.numbers.specs.Words.{longest, at, cleared}
 use Rattle.numbers.specs.Write.{length-tab}
@@ -15,10 +15,10 @@ use Rattle.synthesis.specs.Works.{Joinable}
 use Rattle.synthesis.specs.Runs.{length-synthesised}
 use Rattle.tables.specs.Tables.{lineOf, stored, crossing, crossed}
 use Rattle.tables.specs.Works.{Crossable}
-use Rattle.tables.specs.Stored.{length-stored, line-stored, line-further, stored-same, length-crossing, crossing-same, crossing-add}
+use Rattle.tables.specs.Stored.{line-end, length-stored, stored-at, line-stored, line-further, stored-same, length-crossing, crossing-same, crossing-add}
 use Rattle.tables.specs.Crosses.{crossings}
-use Rattle.plane_synthesis.specs.Joins.{joinOf}
-use Rattle.plane_synthesis.specs.Works.{rowHeld}
+use Rattle.plane_synthesis.specs.Joins.{joinOf, rowJoin, planeJoined}
+use Rattle.plane_synthesis.specs.Works.{Joins, stepJoin, Columning, Rowing, rowHeld}
 
 -- ---- joins
 pub side-joins : (n f : ℕ) {a d o : ℕ} → GoodTaps f → 1 ≤ n → n ≤ longest → n % 2 ≡ 0 → a ≡ pairs n f → d ≡ pairs n f → o ≡ n → Joinable f a d o
@@ -53,6 +53,47 @@ row-high m r k x e h =
     ∙ sym (drop-at (take m z) (take m (drop m z)) m (length-take-le m z (omega (arith, length-drop (r * (m + m)) x))))
     ∙ ap (drop m) (sym (take-add m m z))
 
+-- ---- the columns of two bands, and the rows of both, as lines a step apart
+pub columns-join : {w h f lo hi out : ℕ} → Columning w h f lo hi out → Joins f lo hi (pairs h f) h (pairs w f) out
+columns-join {w} {h} {f} a = record {
+  taps = a .even .sides .taps;
+  some = a .even .sides .high;
+  few = a .even .sides .down;
+  even = a .even .high;
+  lows = λ c l. omega (arith, line-end (pairs h f) l, a .lows);
+  highs = λ c l. omega (arith, line-end (pairs h f) l, a .highs);
+  room = a .filled;
+}
+
+pub rows-few : (w h f bands p : ℕ) → Rowing w h f bands p → pairs w f ≤ bands
+rows-few w h f bands p a = omega (arith, line-end (pairs w f + pairs w f) (let z : 0 < h = omega (arith, a .even .sides .high) in z), a .held)
+
+pub rows-join : {w h f bands hi p : ℕ} → Rowing w h f bands p → hi ≡ bands - pairs w f → Joins f bands hi (pairs w f + pairs w f) w h p
+rows-join {w} {h} {f} a e = record {
+  taps = a .even .sides .taps;
+  some = a .even .sides .wide;
+  few = a .even .sides .across;
+  even = a .even .wide;
+  lows = λ c l. omega (arith, line-end (pairs w f + pairs w f) l, a .held);
+  highs = λ c l. omega (arith, line-end (pairs w f + pairs w f) l, a .held, e);
+  room = a .filled ∙ mul-comm w h;
+}
+
+-- the details of a row, read m numbers further
+row-beside : (m r : ℕ) (x : List Float) → drop (r * (m + m)) (drop m x) ≡ drop (r * (m + m) + m) x
+row-beside m r x = drop-drop (r * (m + m)) m x ∙ ap (λ (k : ℕ). drop k x) (let z : m + r * (m + m) ≡ r * (m + m) + m = omega arith in z)
+
+pub rest-all : (m : ℕ) (x : List Float) → take (length x - m) (drop m x) ≡ drop m x
+rest-all m x = ap (λ (k : ℕ). take k (drop m x)) (sym (length-drop m x)) ∙ take-length (drop m x)
+
+pub rows-held : (g : Format) (w h f bands p : ℕ) (low high x y : List Float) → length x ≡ bands → y ≡ drop (pairs w f) x → Rowing w h f bands p
+    → stored (stepJoin g f low high (pairs w f + pairs w f) w x y) h ≡ stored (rowHeld g f low high w (pairs w f) x) h
+rows-held g w h f bands p low high x y e ey a =
+    stored-same (stepJoin g f low high (pairs w f + pairs w f) w x y) (rowHeld g f low high w (pairs w f) x) h
+    (λ r l. let m = pairs w f in
+    joined-parts g f low high w refl (row-low m r m x refl)
+    (ap (λ (z : List Float). take m (drop (r * (m + m)) z)) ey ∙ ap (take m) (row-beside m r x) ∙ row-high m r m x refl (omega (arith, line-end (m + m) l, a .held, e))) refl)
+
 -- ---- all of it: two tables of m columns of h stand in s, their crossing behind them in t
 module _ (cl ch : ℕ → List Float) (m h : ℕ) (el : (c : ℕ) → length (cl c) ≡ h) (eh : (c : ℕ) → length (ch c) ≡ h) (s t rest : List Float)
     (es : s ≡ stored cl m ++ (stored ch m ++ rest)) (w : Crossable (length s) (m + m) h) (et : t ≡ crossed (m + m) h s) where
@@ -80,7 +121,7 @@ module _ (cl ch : ℕ → List Float) (m h : ℕ) (el : (c : ℕ) → length (cl
       ∙ take-at (stored (crossing (lineOf h s) (m + m)) h) (drop ((m + m) * h + (m + m) * h) s) n
       (length-stored (crossing (lineOf h s) (m + m)) (m + m) h (λ k q. length-crossing (lineOf h s) (m + m) k) ∙ mul-comm h (m + m) ∙ sym e)
 
-  pub row-read : (n r : ℕ) → n ≡ (m + m) * h → r < h → lineOf (m + m) (take n (drop ((m + m) * h) t)) r ≡ crossing cl m r ++ crossing ch m r
+  row-read : (n r : ℕ) → n ≡ (m + m) * h → r < h → lineOf (m + m) (take n (drop ((m + m) * h) t)) r ≡ crossing cl m r ++ crossing ch m r
   row-read n r e l =
       ap (λ (y : List Float). lineOf (m + m) y r) (bands-held n e ∙ sym (append-nil (stored (crossing (lineOf h s) (m + m)) h)))
       ∙ line-stored (crossing (lineOf h s) (m + m)) (m + m) h (λ k q. length-crossing (lineOf h s) (m + m) k) [] r l
@@ -94,3 +135,9 @@ module _ (cl ch : ℕ → List Float) (m h : ℕ) (el : (c : ℕ) → length (cl
       ap (λ (y : List Float). joinOf g F low high v (take m y) (drop m y)) q
       ∙ ap (λ (y : List Float). joinOf g F low high v y (drop m (crossing cl m r ++ crossing ch m r))) (take-at (crossing cl m r) (crossing ch m r) m (length-crossing cl m r))
       ∙ ap (joinOf g F low high v (crossing cl m r)) (drop-at (crossing cl m r) (crossing ch m r) m (length-crossing cl m r)))
+
+-- ---- where a place of the plane stands: place c of row r at r w + c
+pub place-of : (g : Format) (F : ℕ) (low high : List Float) (w h : ℕ) (ll lh hl hh : List Float) (r c : ℕ) → r < h → c < w
+    → at (planeJoined g F low high w h ll lh hl hh) (r * w + c) ≡ at (rowJoin g F low high w h ll lh hl hh r) c
+unfolding planeJoined
+place-of g F low high w h ll lh hl hh r c l k = stored-at (rowJoin g F low high w h ll lh hl hh) w h (λ i q. length-join g F low high w _ _) r c l k

@@ -1,4 +1,4 @@
--- Laws of the tests: an answer is done where every test passed, which gives each part of the work what it asks for.
+-- Laws of the tests and of the whole: an answer is done where every test passed, which gives each part of the work what it asks for, and the parts together are the plane.
 use mathlib.Core.Path.{_≡_, refl, sym, ap, _∙_}
 use mathlib.Core.Bool.{not}
 use mathlib.Core.List.{List, _++_, append-assoc}
@@ -24,7 +24,7 @@ use Rattle.tables.specs.Stored.{length-stored}
 use Rattle.tables.specs.Crosses.{crossed-behind}
 use Rattle.plane_synthesis.specs.Joins.{columnJoin, planeJoined}
 use Rattle.plane_synthesis.specs.Syntheses.{sidesOf, answerOf}
-use Rattle.plane_synthesis.specs.Works.{Even, Columning, Rowing, rowHeld, Synthesising, Joined}
+use Rattle.plane_synthesis.specs.Works.{Columning, Rowing, rowHeld, Synthesising, Joined}
 use Rattle.plane_synthesis.specs.Steps.{length-join, rows-joined}
 
 -- a side that synthesis gives is even
@@ -58,7 +58,7 @@ module _ {w h f p s ll lh hl hh : ℕ} (a : Synthesising w h f p s ll lh hl hh) 
   room = omega (arith, a .held .room)
 
   pub columning : {lo hi out : ℕ} → lo ≡ bandLength w h f → hi ≡ bandLength w h f → out ≡ m * h → Columning w h f lo hi out
-  columning lows highs outs = record { even = a .even; lows = lows; highs = highs; room = outs }
+  columning lows highs outs = record { even = a .even; lows = lows; highs = highs; filled = outs }
 
   pub crossable : {s′ : ℕ} → s′ ≡ s → Crossable s′ (m + m) h
   crossable e = record { tall = omega (arith, a .held .sides .taps .two, a .held .sides .wide); wide = a .held .sides .high; room = omega (arith, e, room, add-mul m m h) }

@@ -9,7 +9,7 @@ use Rattle.planes.specs.declared.Planes.{Planes}
 use Rattle.planes.specs.Lengths.{planeScratch}
 use Rattle.planes.specs.Answers.{numberOf, Scratched}
 use Rattle.planes.specs.Unique.{unique-scratch}
-use Rattle.plane_synthesis.specs.Syntheses.{answerOf, Synthesised}
+use Rattle.plane_synthesis.specs.Syntheses.{Synthesised}
 
 pub unique-synthesise-plane : {bank : Bank} {ll lh hl hh : List Float} {w h : ℕ} {plane scratch : List Float} {r r′ : Planes} {p s p′ s′ : List Float}
     → Synthesised bank ll lh hl hh w h plane scratch r p s → Synthesised bank ll lh hl hh w h plane scratch r′ p′ s′
@@ -19,6 +19,3 @@ unique-synthesise-plane {bank} {w = w} {h} {scratch = scratch} {s′ = s′} p q
     let e = p .answer ∙ sym (q .answer) in
     let u = unique-scratch (p .scratched) (subst (λ (a : Planes). Scratched (numberOf a) (planeScratch w h (bank .taps)) scratch s′) (sym e) (q .scratched)) in
     (e, (cc), u .0, u .1, u .2)
-
-pub unique-plane-synthesis-answer : (w h f p s ll lh hl hh : ℕ) {r r′ : Planes} → r ≡ answerOf w h f p s ll lh hl hh → r′ ≡ answerOf w h f p s ll lh hl hh → r ≡ r′
-unique-plane-synthesis-answer w h f p s ll lh hl hh e q = e ∙ sym q

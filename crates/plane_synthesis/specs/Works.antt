@@ -1,10 +1,11 @@
 -- What the functions that entries share ask for, and what they leave of a part of the work. Definitions only.
 use mathlib.Core.Path.{_≡_}
 use mathlib.Core.List.{List}
-use Prim.Native.Nat.{ℕ, _+_, _*_, _%_, _≤_}
+use Prim.Native.Nat.{ℕ, _+_, _*_, _%_, _≤_, _<_}
 use lib.ListN.{length, take, drop}
 use lib.Ieee.{Float, Format}
-use Rattle.bank.specs.Lengths.{pairs}
+use Rattle.numbers.specs.Words.{longest}
+use Rattle.bank.specs.Lengths.{GoodTaps, pairs}
 use Rattle.planes.specs.Lengths.{bandLength, planeScratch}
 use Rattle.planes.specs.Works.{Sided, Held, Banded}
 use Rattle.tables.specs.Tables.{lineOf}
@@ -16,12 +17,26 @@ pub record Even (w h f : ℕ) : Type 0 where
   pub wide : w % 2 ≡ 0
   pub high : h % 2 ≡ 0
 
+-- two lists of lengths lo and hi that hold the bands of so many lines of n places, `step` numbers further for each, and an output that takes the lines
+pub record Joins (f lo hi step n count out : ℕ) : Type 0 where
+  pub taps : GoodTaps f
+  pub some : 1 ≤ n
+  pub few : n ≤ longest
+  pub even : n % 2 ≡ 0
+  pub lows : (c : ℕ) → c < count → c * step + pairs n f ≤ lo
+  pub highs : (c : ℕ) → c < count → c * step + pairs n f ≤ hi
+  pub room : out ≡ count * n
+
+-- line c of them joined
+abbrev pub stepJoin : Format → ℕ → List Float → List Float → ℕ → ℕ → List Float → List Float → ℕ → List Float
+stepJoin g F low high step n lo hi c = joinOf g F low high n (take (pairs n F) (drop (c * step) lo)) (take (pairs n F) (drop (c * step) hi))
+
 -- two bands of lengths lo and hi, and an output that takes their columns, joined
 pub record Columning (w h f lo hi out : ℕ) : Type 0 where
   pub even : Even w h f
   pub lows : lo ≡ bandLength w h f
   pub highs : hi ≡ bandLength w h f
-  pub room : out ≡ pairs w f * h
+  pub filled : out ≡ pairs w f * h
 
 -- h rows of bands, each approximations before details, and a plane of p
 pub record Rowing (w h f bands p : ℕ) : Type 0 where

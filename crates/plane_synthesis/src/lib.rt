@@ -16,11 +16,11 @@ fn sides_answer(width: usize, height: usize, f: usize) -> Planes
     requires { ⌜ Sided width height f ⌝ }
     ensures { λ r. ⌜ r ≡ sidesOf width height f ⌝ }
 {
-    let high = 2 * ((height + f - 1) / 2) + 2 - f;
-    if height != high {
+    let tall = 2 * ((height + f - 1) / 2) + 2 - f;
+    if height != tall {
         return Planes::OutputSizeIsNotValid {
             have: height,
-            need: high,
+            need: tall,
         };
     }
     let wide = 2 * ((width + f - 1) / 2) + 2 - f;

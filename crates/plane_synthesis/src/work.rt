@@ -6,9 +6,45 @@ ghost use lib.Ieee.{binary64};
 ghost use Rattle.bank.specs.Lengths.{pairs};
 ghost use Rattle.tables.specs.Tables.{stored};
 ghost use Rattle.plane_synthesis.specs.Joins.{columnJoin};
-ghost use Rattle.plane_synthesis.specs.Works.{Columning, Rowing, rowHeld, Synthesising, Joined};
-use synthesis::work::join_cleared;
+ghost use Rattle.plane_synthesis.specs.Works.{Joins, stepJoin, Columning, Rowing, rowHeld, Synthesising, Joined};
+use synthesis::work::join_anew;
 use tables::cross;
+
+// So many lines of n places, one after another: line c joined from m numbers of either list, `step` numbers further for each line.
+fn joins(
+    low: &[f64; 64],
+    high: &[f64; 64],
+    f: usize,
+    lo: &[f64],
+    hi: &[f64],
+    step: usize,
+    n: usize,
+    count: usize,
+    out: &mut [f64],
+)
+    requires { ⌜ Joins f (length (now lo)) (length (now hi)) step n count (length (now out)) ⌝ }
+    ensures { λ _. ⌜ now (out .exit) ≡ stored (stepJoin binary64 f (now (low .entry)) (now (high .entry)) step n (now (lo .entry)) (now (hi .entry))) count ⌝ }
+{
+    let l = *low;
+    let h = *high;
+    let m = (n + f - 1) / 2;
+    let mut c = 0usize;
+    while c < count {
+        let from = c * step;
+        let to = from + m;
+        let start = c * n;
+        let end = start + n;
+        join_anew(
+            &l,
+            &h,
+            f,
+            &lo[from..to],
+            &hi[from..to],
+            &mut out[start..end],
+        );
+        c += 1;
+    }
+}
 
 // Each column of two bands joined, one after another.
 fn columns(
@@ -26,22 +62,7 @@ fn columns(
 {
     let m = (width + f - 1) / 2;
     let b = (height + f - 1) / 2;
-    let mut c = 0usize;
-    while c < m {
-        let from = c * b;
-        let to = from + b;
-        let start = c * height;
-        let end = start + height;
-        join_cleared(
-            low,
-            high,
-            f,
-            &lo[from..to],
-            &hi[from..to],
-            &mut out[start..end],
-        );
-        c += 1;
-    }
+    joins(low, high, f, lo, hi, b, height, m, out);
 }
 
 // Each row joined from its bands, which lie one row after another, the approximations first.
@@ -58,23 +79,17 @@ fn rows(
     ensures { λ _. ⌜ now (plane .exit) ≡ stored (rowHeld binary64 f (now (low .entry)) (now (high .entry)) width (pairs width f) (now (bands .entry))) height ⌝ }
 {
     let m = (width + f - 1) / 2;
-    let mut r = 0usize;
-    while r < height {
-        let from = r * (m + m);
-        let mid = from + m;
-        let end = mid + m;
-        let start = r * width;
-        let to = start + width;
-        join_cleared(
-            low,
-            high,
-            f,
-            &bands[from..mid],
-            &bands[mid..end],
-            &mut plane[start..to],
-        );
-        r += 1;
-    }
+    joins(
+        low,
+        high,
+        f,
+        bands,
+        &bands[m..],
+        m + m,
+        width,
+        height,
+        plane,
+    );
 }
 
 // The whole plane.

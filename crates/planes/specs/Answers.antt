@@ -1,4 +1,4 @@
--- Planes: the answers with their numbers, the tests that analysis and synthesis share, and what the size questions promise. Definitions only.
+-- Planes: the answers with their numbers, the tests that analysis and synthesis share, what the size questions promise, and what is said of a scratch. Definitions only.
 use mathlib.Core.Path.{_≡_}
 use mathlib.Core.Bool.{cond, not, _||_}
 use mathlib.Core.List.{List, [], _∷_}

@@ -3,7 +3,7 @@ use mathlib.Core.Path.{_≡_}
 use Prim.Native.Nat.{ℕ, _*_, _≤_}
 use Rattle.numbers.specs.Words.{longest, largest}
 use Rattle.bank.specs.Lengths.{GoodTaps}
-use Rattle.planes.specs.Lengths.{planeScratch, bandLength}
+use Rattle.planes.specs.Lengths.{planeScratch}
 
 -- a plane of w by h and f taps past 12, 7 and 11
 pub record Sided (w h f : ℕ) : Type 0 where

@@ -1,6 +1,5 @@
 // The lengths that a user of planes has to know to lend buffers.
 ghost use mathlib.Core.Path.{_≡_};
-ghost use Rattle.bank.specs.Lengths.{pairs};
 ghost use Rattle.planes.specs.Answers.{WidthSized, HeightSized, BandSized, ScratchSized};
 ghost use Rattle.planes.specs.Lengths.{bandLength, planeScratch};
 ghost use Rattle.planes.specs.Works.{Sided};

@@ -61,6 +61,23 @@ pub fn floats(words: &[u64], from: usize, n: usize) -> [f64; 160]
     list
 }
 
+// A place so many words further on; no line has more than 2048 words.
+pub fn further(at: usize, n: usize) -> usize {
+    least(at, 2048) + least(n, 2048)
+}
+
+// The list that begins at a place with its count.
+pub fn list(words: &[u64], at: usize) -> [f64; 160]
+    ensures { λ r. ⌜ length r ≡ 160 ⌝ }
+{
+    floats(words, further(at, 1), count(words, at))
+}
+
+// Where that list ends.
+pub fn behind(words: &[u64], at: usize) -> usize {
+    further(further(at, 1), count(words, at))
+}
+
 // Whether a float has these bits; every NaN is one.
 pub fn alike(x: f64, w: u64) -> bool {
     if x != x {
@@ -73,9 +90,16 @@ pub fn alike(x: f64, w: u64) -> bool {
 pub fn same(words: &[u64], from: usize, list: &[f64; 160], n: usize) -> bool
     requires { ⌜ n ≤ 160 ⌝ }
 {
-    let mut i = 0usize;
+    same_behind(words, from, list, 0, n)
+}
+
+// The same for those of the first n that lie behind a front.
+pub fn same_behind(words: &[u64], from: usize, list: &[f64; 160], front: usize, n: usize) -> bool
+    requires { ⌜ n ≤ 160 ⌝ }
+{
+    let mut i = front;
     while i < n {
-        if !alike(list[i], word(words, from, i)) {
+        if !alike(list[i], word(words, from, i - front)) {
             return false;
         }
         i += 1;

@@ -1,7 +1,9 @@
 // Replays the Rust's answers: each line of the list is a call with what the Rust answered and what every lent buffer then held.
+mod compared;
 mod lines;
 mod lists;
 mod packing;
+mod planar;
 mod sizes;
 mod text;
 
@@ -24,6 +26,12 @@ fn agrees(words: &[u64]) -> bool {
         14 => packing::analysis(words),
         15 => packing::restoring(words),
         16 => packing::reading(words),
+        17 => sizes::of_planes(words),
+        18 => sizes::of_planes(words),
+        19 => sizes::of_planes(words),
+        21 => planar::analysis(words),
+        22 => planar::synthesis(words),
+        23 => compared::comparing(words),
         _ => false,
     }
 }

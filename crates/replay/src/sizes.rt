@@ -8,6 +8,7 @@ use crate::lists::signed;
 use crate::lists::told;
 use crate::lists::word;
 use isferghul::depths;
+use isferghul::planar;
 use isferghul::sizes;
 use isferghul::taps;
 
@@ -63,6 +64,20 @@ pub fn level_part(words: &[u64]) -> bool {
     let mut carried = blank();
     let number = depths::isferghul_level_part(n, f, levels, level, &mut carried);
     told(words, 5, number, &carried)
+}
+
+// The three lengths of a plane's bands. The scratch is not among them: the Rust's is another.
+pub fn of_planes(words: &[u64]) -> bool {
+    let width = word(words, 1, 0) as usize;
+    let height = word(words, 2, 0) as usize;
+    let f = word(words, 3, 0) as usize;
+    let mut carried = blank();
+    let number = match word(words, 0, 0) {
+        17 => planar::isferghul_plane_band_width(width, height, f, &mut carried),
+        18 => planar::isferghul_plane_band_height(width, height, f, &mut carried),
+        _ => planar::isferghul_plane_band_length(width, height, f, &mut carried),
+    };
+    told(words, 4, number, &carried)
 }
 
 pub fn mirror(words: &[u64]) -> bool {

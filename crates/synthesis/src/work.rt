@@ -140,3 +140,23 @@ pub fn join_cleared(
     let done = inner(&l, &h, f, approx, detail, out, start, end);
     edge(&l, &h, f, approx, detail, out, done, approx.len());
 }
+
+// The same over the taps as they are lent: for a caller that has copied them once for many joins, and is the only one, so that it is inlined there.
+pub fn join_anew(
+    low: &[f64; 64],
+    high: &[f64; 64],
+    f: usize,
+    approx: &[f64],
+    detail: &[f64],
+    out: &mut [f64],
+)
+    requires { ⌜ Joinable f (length (now approx)) (length (now detail)) (length (now out)) ⌝ }
+    ensures { λ _. ⌜ now (out .exit) ≡ synthesised binary64 f (now (low .entry)) (now (high .entry)) (now (approx .entry)) (now (detail .entry)) (cleared (length (now (out .entry)))) ⌝ }
+{
+    clear(out);
+    let start = (f - 2) / 2;
+    let end = most(start, out.len() / 2);
+    edge(low, high, f, approx, detail, out, 0, start);
+    let done = inner(low, high, f, approx, detail, out, start, end);
+    edge(low, high, f, approx, detail, out, done, approx.len());
+}

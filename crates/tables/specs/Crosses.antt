@@ -2,64 +2,66 @@
 use mathlib.Core.Path.{_≡_, refl, sym, ap, subst, _∙_}
 use mathlib.Core.Logic.{_⊎_, inl, inr, ⊎-elim}
 use mathlib.Core.List.{List, _++_}
-use Prim.Native.Nat.{ℕ, zero, suc, _+_, _-_, _*_, _/_, _%_, _≤_, _<_}
-use native.Mathlib.Nat.{mul-comm, mul-le-mul-right, add-mul, mod-lt, div-add-mod', div-lt-iff-lt-mul}
+use Prim.Native.Nat.{ℕ, _+_, _-_, _*_, _/_, _%_, _≤_, _<_}
+use native.Mathlib.Nat.{mul-comm, add-mul, mod-lt, div-add-mod', div-lt-iff-lt-mul}
 use native.Mathlib.Decide.{decLt}
 use native.Mathlib.Omega.{arith}
-use lib.ListN.{length, getD, take, drop, length-drop, take-append-drop}
-use lib.Seq.{ext-getD, length-take-le, drop-at, take-add, getD-take, getD-drop, drop-drop}
+use lib.ListN.{length, take, drop, length-drop, take-append-drop}
+use lib.Seq.{ext-getD, length-take-le, drop-at, getD-drop, drop-drop}
 use lib.Arith.{digits-lt}
 use lib.Ieee.{Float, nan}
 use Rattle.numbers.specs.Words.{at, placed}
 use Rattle.numbers.specs.Write.{length-placed, getD-placed-before, getD-placed-behind}
 use Rattle.numbers.specs.Places.{getD-placed-in, getD-part, part-ext}
 use Rattle.tables.specs.Tables.{lineOf, stored, crossing, crossed}
-use Rattle.tables.specs.Works.{Gathered, Crossable, Strip, CrossedTo}
+use Rattle.tables.specs.Works.{Gatherable, Crossable, Strip, CrossedTo}
 use Rattle.tables.specs.Stored.{line-end, sides-below, length-stored, length-crossing, stored-at, crossing-at}
 
 module _ (lines n : ℕ) where
   -- place k of line r, and place r of crossing k, are within the table
-  pub within : (k r : ℕ) → k < n → r < lines → r * n + k < lines * n
+  within : (k r : ℕ) → k < n → r < lines → r * n + k < lines * n
   within k r h l = digits-lt l h
 
-  pub within-crossed : (k r : ℕ) → k < n → r < lines → k * lines + r < lines * n
+  within-crossed : (k r : ℕ) → k < n → r < lines → k * lines + r < lines * n
   within-crossed k r h l = omega (arith, digits-lt {q = k} {m = n} {r = r} {c = lines} h l, mul-comm n lines)
 
-  pub crossed-start : (first end : ℕ) (x : List Float) → CrossedTo lines n first end 0 x x
-  crossed-start first end x = record {
+  pub crossed-start : (first end left : ℕ) (x : List Float) → CrossedTo lines n first end left left x x
+  crossed-start first end left x = record {
     long = refl;
-    across = λ k r h l m. absurd (omega arith);
+    across = λ k r g h l m. absurd (omega arith);
     others = λ k r h l. refl;
+    earlier = λ k r h l. refl;
     before = λ j h. refl;
     behind = λ j h. refl;
   }
 
-  pub crossed-none : (first : ℕ) (x : List Float) → CrossedTo lines n first first n x x
-  crossed-none first x = record {
+  pub crossed-none : (first left c : ℕ) (x : List Float) → CrossedTo lines n first first left c x x
+  crossed-none first left c x = record {
     long = refl;
-    across = λ k r h l m. absurd (omega arith);
+    across = λ k r g h l m. absurd (omega arith);
     others = λ k r h l. refl;
+    earlier = λ k r h l. refl;
     before = λ j h. refl;
     behind = λ j h. refl;
   }
 
   -- ---- the lines from `first` on, as many as are written at place c of the crossing
-  module _ (first end c to count : ℕ) (x s : List Float) (g : ℕ → Float) (p : Strip (length x) lines n first end) (h : c < n)
+  module _ (first end left right c to count : ℕ) (x s : List Float) (g : ℕ → Float) (p : Strip (length x) lines n first end left right) (o : left ≤ c) (h : c < n)
       (et : to ≡ lines * n + (c * lines + first)) (ec : first + count ≡ end) (eg : (k : ℕ) → k < count → g k ≡ at s ((first + k) * n + c))
-      (q : CrossedTo lines n first end c x s) where
+      (q : CrossedTo lines n first end left c x s) where
     room : to + count ≤ length s
     room = omega (arith, et, ec, q .long, line-end lines h, mul-comm n lines, p .last, p .all .room)
 
     last : to + count ≤ lines * n + lines * n
     last = omega (arith, et, ec, line-end lines h, mul-comm n lines, p .last)
 
-    earlier : (k r : ℕ) → k < c → r < lines → lines * n + (k * lines + r) < to
-    earlier k r l m = omega (arith, et, line-end lines l)
+    sooner : (k r : ℕ) → k < c → r < lines → lines * n + (k * lines + r) < to
+    sooner k r l m = omega (arith, et, line-end lines l)
 
-    new : (k r : ℕ) → Dec (k < c) → k < c + 1 → first ≤ r → r < end → at (placed g to count s) (lines * n + (k * lines + r)) ≡ at x (r * n + k)
-    new k r (yes l) m u v =
-        getD-placed-before g to count s (lines * n + (k * lines + r)) nan (omega (arith, room)) (earlier k r l (omega (arith, p .last))) ∙ q .across k r l u v
-    new k r (no l) m u v =
+    new : (k r : ℕ) → Dec (k < c) → left ≤ k → k < c + 1 → first ≤ r → r < end → at (placed g to count s) (lines * n + (k * lines + r)) ≡ at x (r * n + k)
+    new k r (yes l) i m u v =
+        getD-placed-before g to count s (lines * n + (k * lines + r)) nan (omega (arith, room)) (sooner k r l (omega (arith, p .last))) ∙ q .across k r i l u v
+    new k r (no l) w m u v =
         let e : k ≡ c = omega arith in
         let i = r - first in
         let there : lines * n + (c * lines + r) ≡ to + i = omega (arith, et) in
@@ -74,7 +76,7 @@ module _ (lines n : ℕ) where
 
     old : (k r : ℕ) → Dec (k < c) → Dec (k < c + 1) → r < lines → (r < first) ⊎ (end ≤ r)
         → at (placed g to count s) (lines * n + (k * lines + r)) ≡ at s (lines * n + (k * lines + r))
-    old k r (yes l) d m o = getD-placed-before g to count s (lines * n + (k * lines + r)) nan (omega (arith, room)) (earlier k r l m)
+    old k r (yes l) d m o = getD-placed-before g to count s (lines * n + (k * lines + r)) nan (omega (arith, room)) (sooner k r l m)
     old k r (no l) (yes d) m o =
         let e : k * lines ≡ c * lines = ap (λ (k : ℕ). k * lines) (let z : k ≡ c = omega arith in z) in
         ⊎-elim
@@ -84,47 +86,65 @@ module _ (lines n : ℕ) where
     old k r (no l) (no d) m o =
         getD-placed-behind g to count s (lines * n + (k * lines + r)) nan (omega (arith, room)) (omega (arith, et, ec, line-end lines (let z : c < k = omega arith in z), p .last))
 
-    pub crossed-step : CrossedTo lines n first end (c + 1) x (placed g to count s)
+    crossed-step : CrossedTo lines n first end left (c + 1) x (placed g to count s)
     crossed-step = record {
       long = length-placed g to count s room ∙ q .long;
-      across = λ k r l u v. new k r (decLt k c) l u v;
+      across = λ k r i l u v. new k r (decLt k c) i l u v;
       others = λ k r l o. old k r (decLt k c) (decLt k (c + 1)) l o ∙ q .others k r l o;
+      earlier = λ k r l m. getD-placed-before g to count s (lines * n + (k * lines + r)) nan (omega (arith, room)) (sooner k r (omega (arith, o)) l) ∙ q .earlier k r l m;
       before = λ j l. getD-placed-before g to count s j nan (omega (arith, room)) (omega (arith, et)) ∙ q .before j l;
       behind = λ j l. getD-placed-behind g to count s j nan (omega (arith, room)) (omega (arith, last)) ∙ q .behind j l;
     }
 
   -- a turn of the strip: what is gathered at place c may be asked for, and carries the crossing one place further
-  module _ (first count c to : ℕ) (x s : List Float) (p : Strip (length x) lines n first (first + count)) (h : c < n)
-      (et : to ≡ lines * n + (c * lines + first)) (q : CrossedTo lines n first (first + count) c x s) where
-    pub gathering : Gathered (length s) n (first * n + c) to count
+  module _ (first count left right c to : ℕ) (x s : List Float) (p : Strip (length x) lines n first (first + count) left right) (o : left ≤ c) (h : c < n)
+      (et : to ≡ lines * n + (c * lines + first)) (q : CrossedTo lines n first (first + count) left c x s) where
+    pub gathering : Gatherable (length s) n (first * n + c) to count
     gathering = record {
       before = λ k l. omega (arith, et, within c (first + k) h (omega (arith, p .last)), add-mul first k n);
       few = omega (arith, sides-below lines n (p .all .tall) (p .all .wide), p .all .room, q .long);
       room = omega (arith, et, line-end lines h, mul-comm n lines, p .last, p .all .room, q .long);
     }
 
-    pub crossed-turn : {t : List Float} → t ≡ placed (λ k. at s (first * n + c + k * n)) to count s → CrossedTo lines n first (first + count) (c + 1) x t
+    pub crossed-turn : {t : List Float} → t ≡ placed (λ k. at s (first * n + c + k * n)) to count s → CrossedTo lines n first (first + count) left (c + 1) x t
     crossed-turn e =
-        subst (λ (y : List Float). CrossedTo lines n first (first + count) (c + 1) x y) (sym e)
-        (crossed-step first (first + count) c to count x s (λ k. at s (first * n + c + k * n)) p h et refl
+        subst (λ (y : List Float). CrossedTo lines n first (first + count) left (c + 1) x y) (sym e)
+        (crossed-step first (first + count) left right c to count x s (λ k. at s (first * n + c + k * n)) p o h et refl
         (λ k l. ap (at s) (let z : first * n + c + k * n ≡ (first + k) * n + c = omega (arith, add-mul first k n) in z)) q)
 
   -- ---- strips of lines one behind the other
-  pub crossed-more : (a e : ℕ) (x s t : List Float) → a ≤ e → e ≤ lines → CrossedTo lines n 0 a n x s → CrossedTo lines n a e n s t → CrossedTo lines n 0 e n x t
-  crossed-more a e x s t h l p q = record {
+  pub crossed-more : (left c a e : ℕ) (x s t : List Float) → c ≤ n → a ≤ e → e ≤ lines
+      → CrossedTo lines n 0 a left c x s → CrossedTo lines n a e left c s t → CrossedTo lines n 0 e left c x t
+  crossed-more left c a e x s t i h l p q = record {
     long = q .long ∙ p .long;
-    across = λ k r u v w. go k r u w (decLt r a);
+    across = λ k r g u v w. go k r g u w (decLt r a);
     others = λ k r u o. ⊎-elim
         (λ v. absurd (omega arith))
         (λ v. q .others k r u (inr v) ∙ p .others k r u (inr (omega arith)))
         o;
+    earlier = λ k r u v. q .earlier k r u v ∙ p .earlier k r u v;
     before = λ j u. q .before j u ∙ p .before j u;
     behind = λ j u. q .behind j u ∙ p .behind j u;
   }
     where
-      go : (k r : ℕ) → k < n → r < e → Dec (r < a) → at t (lines * n + (k * lines + r)) ≡ at x (r * n + k)
-      go k r u w (yes d) = q .others k r (omega arith) (inl d) ∙ p .across k r u (omega arith) d
-      go k r u w (no d) = q .across k r u (omega arith) w ∙ p .before (r * n + k) (within k r u (omega arith))
+      go : (k r : ℕ) → left ≤ k → k < c → r < e → Dec (r < a) → at t (lines * n + (k * lines + r)) ≡ at x (r * n + k)
+      go k r g u w (yes d) = q .others k r (omega arith) (inl d) ∙ p .across k r g u (omega arith) d
+      go k r g u w (no d) = q .across k r g u (omega arith) w ∙ p .before (r * n + k) (within k r (omega arith) (omega arith))
+
+  -- ---- and tiles of places
+  pub crossed-beside : (a e : ℕ) (x s t : List Float) → a ≤ e → e ≤ n → CrossedTo lines n 0 lines 0 a x s → CrossedTo lines n 0 lines a e s t → CrossedTo lines n 0 lines 0 e x t
+  crossed-beside a e x s t h l p q = record {
+    long = q .long ∙ p .long;
+    across = λ k r g u v w. go k r u w (decLt k a);
+    others = λ k r u o. ⊎-elim (λ v. absurd (omega arith)) (λ v. absurd (omega arith)) o;
+    earlier = λ k r u v. absurd (omega arith);
+    before = λ j u. q .before j u ∙ p .before j u;
+    behind = λ j u. q .behind j u ∙ p .behind j u;
+  }
+    where
+      go : (k r : ℕ) → k < e → r < lines → Dec (k < a) → at t (lines * n + (k * lines + r)) ≡ at x (r * n + k)
+      go k r u w (yes d) = q .earlier k r w d ∙ p .across k r (omega arith) d (omega arith) w
+      go k r u w (no d) = q .across k r (omega arith) u (omega arith) w ∙ p .before (r * n + k) (within k r (omega arith) w)
 
   -- ---- all lines
   abbrev A : ℕ
@@ -136,13 +156,13 @@ module _ (lines n : ℕ) where
   each : (x : List Float) (c : ℕ) → c < n → length (crossing (lineOf n x) lines c) ≡ lines
   each x c h = length-crossing (lineOf n x) lines c
 
-  module _ (x s : List Float) (w : Crossable (length x) lines n) (p : CrossedTo lines n 0 lines n x s) where
+  module _ (x s : List Float) (w : Crossable (length x) lines n) (p : CrossedTo lines n 0 lines 0 n x s) where
     -- place r of crossing k is place k of line r
     here : (i k r : ℕ) → k < n → r < lines → k * lines + r ≡ i → at (take A (drop A s)) i ≡ at (S x) i
     here i k r h l e =
         ap (at (take A (drop A s))) (sym e)
         ∙ getD-part nan A A s (k * lines + r) (within-crossed k r h l)
-        ∙ p .across k r h (omega arith) l
+        ∙ p .across k r (omega arith) h (omega arith) l
         ∙ sym (getD-part nan (r * n) n x k h)
         ∙ sym (crossing-at (lineOf n x) lines k r l)
         ∙ sym (stored-at (crossing (lineOf n x) lines) lines n (each x) k r h l)

@@ -6,8 +6,8 @@ use Prim.Native.Nat.{ℕ, zero, suc, _+_, _-_, _*_, _≤_, _<_}
 use native.Mathlib.Nat.{add-mul, suc-mul, mul-one, one-mul, mul-le-mul-left, mul-le-mul-right, eq-or-lt-of-le, le-of-suc-le-suc}
 use native.Mathlib.Numerals.{add-one, add-one-le}
 use native.Mathlib.Omega.{arith}
-use lib.ListN.{length, getD, take, drop, length-append, length-drop, List·getD-append}
-use lib.Seq.{ext-getD, take-at, drop-at, drop-length, drop-drop, getD-append-add, length-take-le, take-add}
+use lib.ListN.{length, take, drop, length-append, length-drop, List·getD-append}
+use lib.Seq.{ext-getD, take-at, drop-at, drop-length, drop-drop, getD-append-add, length-take-le}
 use lib.Ieee.{Float, nan}
 use borrow.Rule.Slice.PartMut.{putMid}
 use Rattle.numbers.specs.Words.{at, tab}
@@ -40,15 +40,6 @@ pub stored-same : (g h : ℕ → List Float) (n : ℕ) → ((c : ℕ) → c < n 
 unfolding stored
 stored-same g h zero e = refl
 stored-same g h (suc n) e = ap (λ (l : List Float). l ++ g n) (stored-same g h n (λ c l. e c (omega arith))) ∙ ap (λ (l : List Float). stored h n ++ l) (e n (omega arith))
-
-pub stored-add : (g : ℕ → List Float) (a b : ℕ) → stored g (a + b) ≡ stored g a ++ stored (λ c. g (a + c)) b
-unfolding stored
-stored-add g a zero = let z : a + 0 ≡ a = omega arith in ap (stored g) z ∙ sym (append-nil (stored g a))
-stored-add g a (suc b) =
-    let e : a + suc b ≡ suc (a + b) = omega arith in
-    ap (stored g) e
-    ∙ ap (λ (l : List Float). l ++ g (a + b)) (stored-add g a b)
-    ∙ append-assoc (stored g a) (stored (λ c. g (a + c)) b) (g (a + b))
 
 -- ---- lines of B numbers each
 abbrev pub Each : (ℕ → List Float) → ℕ → ℕ → Type 0
@@ -91,15 +82,6 @@ line-stored g B n each rest c l =
 -- line c of what lies behind a lines is line a + c
 pub line-further : (B a c : ℕ) (x : List Float) → lineOf B (drop (a * B) x) c ≡ lineOf B x (a + c)
 line-further B a c x = ap (take B) (drop-drop (c * B) (a * B) x ∙ ap (λ (k : ℕ). drop k x) (sym (add-mul a c B)))
-
--- a list is its lines one after another
-pub stored-lines : (B n : ℕ) (x : List Float) → n * B ≤ length x → stored (lineOf B x) n ≡ take (n * B) x
-unfolding stored
-stored-lines B zero x h = let z : zero * B ≡ 0 = omega arith in sym (ap (λ (k : ℕ). take k x) z)
-stored-lines B (suc n) x h =
-    ap (λ (l : List Float). l ++ lineOf B x n) (stored-lines B n x (omega (arith, suc-mul n B)))
-    ∙ sym (take-add (n * B) B x)
-    ∙ sym (ap (λ (k : ℕ). take k x) (suc-mul n B))
 
 -- ---- a crossing
 pub length-crossing : (g : ℕ → List Float) (n k : ℕ) → length (crossing g n k) ≡ n

@@ -4,30 +4,10 @@ use packed::parts::Handing;
 use packed::parts::Reading;
 use packed::sizes::LevelPart;
 use packed::sizes::LevelSize;
+use trying::answers::none;
+use trying::answers::one;
+use trying::answers::two;
 use trying::print::floats;
-use trying::print::number;
-use trying::print::text;
-
-fn none(no: usize) {
-    text(b"answer");
-    number(no);
-    text(b"\n");
-}
-
-fn one(no: usize, a: usize) {
-    text(b"answer");
-    number(no);
-    number(a);
-    text(b"\n");
-}
-
-fn two(no: usize, a: usize, b: usize) {
-    text(b"answer");
-    number(no);
-    number(a);
-    number(b);
-    text(b"\n");
-}
 
 pub fn of_levels(a: Levels) {
     match a {

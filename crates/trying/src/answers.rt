@@ -18,6 +18,27 @@ fn value(v: usize) {
     }
 }
 
+pub fn none(no: usize) {
+    text(b"answer");
+    number(no);
+    text(b"\n");
+}
+
+pub fn one(no: usize, a: usize) {
+    text(b"answer");
+    number(no);
+    number(a);
+    text(b"\n");
+}
+
+pub fn two(no: usize, a: usize, b: usize) {
+    text(b"answer");
+    number(no);
+    number(a);
+    number(b);
+    text(b"\n");
+}
+
 fn answer(no: u64, carried: &[usize; 2]) {
     text(b"answer");
     number(no as usize);

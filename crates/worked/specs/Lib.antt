@@ -3,6 +3,9 @@ pub mod Whole
 pub mod Lines
 pub mod Kernels
 pub mod Levels
+pub mod Planes
+pub mod PlaneAnswers
+pub mod Comparing
 pub mod Meeting
 pub mod Premised
 pub mod Restoring

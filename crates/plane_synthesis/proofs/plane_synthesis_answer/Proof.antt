@@ -6,12 +6,11 @@ use mathlib.Core.Path.{_≡_, _∙_, refl, sym, ap}
 use Prim.Native.Nat.{ℕ}
 use Rattle.numbers.specs.Tests.{key-above, other}
 use Rattle.planes.proofs.Planes.{enum}
-use Rattle.planes.specs.declared.Planes.{Planes}
 use Rattle.planes.specs.declared.Planes.the-variants.{Done}
 use Rattle.planes.specs.Answers.{andThen, heldOf, bandsOf}
 use Rattle.planes.specs.Lengths.{bandLength}
 use Rattle.planes.specs.Tested.{stopped, went-on, held-done}
-use Rattle.plane_synthesis.specs.Syntheses.{sidesOf, answerOf}
+use Rattle.plane_synthesis.specs.Syntheses.{answerOf}
 use Rattle.plane_synthesis.proofs.plane_synthesis_answer.Statement.{statement}
 use Rattle.plane_synthesis.proofs.plane_synthesis_answer.Tie as tie
 

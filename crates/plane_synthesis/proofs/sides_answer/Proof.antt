@@ -5,20 +5,20 @@ use Rattle.planes.specs.Areas.{few-pairs}
 use Rattle.plane_synthesis.proofs.sides_answer.Statement.{statement}
 use Rattle.plane_synthesis.proofs.sides_answer.Tie as tie
 
-add-high : tie.Need-add-high
-add-high c = omega (arith, c .pre .down, c .pre .taps .most)
+add-tall : tie.Need-add-tall
+add-tall c = omega (arith, c .pre .down, c .pre .taps .most)
 
-sub-high : tie.Need-sub-high
-sub-high c = omega (arith, c .pre .high)
+sub-tall : tie.Need-sub-tall
+sub-tall c = omega (arith, c .pre .high)
 
-mul-high : tie.Need-mul-high
-mul-high c = omega (arith, few-pairs (c .pre))
+mul-tall : tie.Need-mul-tall
+mul-tall c = omega (arith, few-pairs (c .pre))
 
-add-high-2 : tie.Need-add-high-2
-add-high-2 c = omega (arith, few-pairs (c .pre))
+add-tall-2 : tie.Need-add-tall-2
+add-tall-2 c = omega (arith, few-pairs (c .pre))
 
-sub-high-2 : tie.Need-sub-high-2
-sub-high-2 c = omega (arith, c .pre .high, c .pre .taps .two)
+sub-tall-2 : tie.Need-sub-tall-2
+sub-tall-2 c = omega (arith, c .pre .high, c .pre .taps .two)
 
 returns : tie.Need-returns
 returns c = simp (ne-eqb _ _ (c .if1 .taken))
@@ -48,11 +48,11 @@ pub sides-answer-spec : {M : Type 1} → statement M
 sides-answer-spec =
     tie.close
     (tie.spec
-    add-high
-    sub-high
-    mul-high
-    add-high-2
-    sub-high-2
+    add-tall
+    sub-tall
+    mul-tall
+    add-tall-2
+    sub-tall-2
     returns
     add-wide
     sub-wide

@@ -1,41 +1,44 @@
--- `tables::cross` meets its contract: eight lines after eight are crossed, then those that are left, and all of them are the crossing.
+-- `tables::cross` meets its contract: tile beside tile is crossed, and all of them are the crossing.
 use borrow.Author.Needs.{needs}
 use Prim.Native.Nat.{ℕ, _+_, _-_, _≤_}
 use native.Mathlib.Omega.{arith}
-use mathlib.Core.Path.{_≡_, _∙_, subst}
+use mathlib.Core.Path.{_≡_, _∙_}
 use mathlib.Core.List.{List}
 use denote.Ref.{now}
 use lib.ListN.{length}
 use lib.Ieee.{Float}
 use Rattle.tables.specs.Works.{Crossable, Strip, CrossedTo}
-use Rattle.tables.specs.Crosses.{crossed-none, crossed-more, crossed-all}
+use Rattle.tables.specs.Crosses.{crossed-start, crossed-beside, crossed-all}
 use Rattle.tables.proofs.cross.Statement.{statement}
 use Rattle.tables.proofs.cross.Tie as tie
 
 abbrev Inv-loop : tie.InvT-loop
-Inv-loop s₀ lines n r₀ s r = (r ≤ lines) × CrossedTo lines n 0 r n s₀ s
+Inv-loop s₀ lines n c₀ s c = (c ≤ n) × CrossedTo lines n 0 lines 0 c s₀ s
 
 abbrev μ-loop : tie.MeasureT-loop
-μ-loop s₀ lines n r₀ s r = lines - r
+μ-loop s₀ lines n c₀ s c = n - c
 
--- some of the lines in a list that is as long
-some : (lines n r e : ℕ) (x s : List Float) → Crossable (length x) lines n → length s ≡ length x → r ≤ e → e ≤ lines → Strip (length s) lines n r e
-some lines n r e x s w q h k = record { all = record { tall = w .tall; wide = w .wide; room = omega (arith, w .room, q) }; rising = h; last = k }
+-- some of the places in a list that is as long
+some : (lines n left right : ℕ) (x s : List Float) → Crossable (length x) lines n → length s ≡ length x → left ≤ right → right ≤ n → Strip (length s) lines n 0 lines left right
+some lines n left right x s w q h k = record { all = record { tall = w .tall; wide = w .wide; room = omega (arith, w .room, q) }; rising = omega arith; last = omega arith; onward = h; inside = k }
 
 loop-holds : tie.Need-loop-holds Inv-loop μ-loop
-loop-holds c = let a = c .before .args in (search needs, crossed-none (a .lines) (a .n) 0 (now (a .s)))
+loop-holds c = let a = c .before .args in (search needs, crossed-start (a .lines) (a .n) 0 (a .lines) 0 (now (a .s)))
 
 sub-loop : tie.Need-sub-loop Inv-loop μ-loop
 sub-loop c = search needs
 
-strip-requires : tie.Need-strip-requires Inv-loop μ-loop
-strip-requires c κs =
+add-tile : tie.Need-add-tile Inv-loop μ-loop
+add-tile c = omega (arith, c .before .before .loop .inv .0, c .before .loop-test .taken)
+
+tile-requires : tie.Need-tile-requires Inv-loop μ-loop
+tile-requires c κs =
     let l = c .before .before in
     let s = l .before .before in
-    some (s .args .lines) (s .args .n) (l .loop .r) (l .loop .r + 8) (now (s .args .s)) (l .loop .s) (s .pre) (l .loop .inv .1 .long) (omega arith) (omega (arith, l .loop .inv .0, c .before .loop-test .taken))
+    some (s .args .lines) (s .args .n) (l .loop .c) (l .loop .c + 64) (now (s .args .s)) (l .loop .s) (s .pre) (l .loop .inv .1 .long) (omega arith) (omega (arith, l .loop .inv .0, c .before .loop-test .taken))
 
-add-r : tie.Need-add-r Inv-loop μ-loop
-add-r c = omega (arith, c .before .before .before .before .before .loop .inv .0, c .before .before .before .before .loop-test .taken)
+add-c : tie.Need-add-c Inv-loop μ-loop
+add-c c = omega (arith, c .before .before .before .before .before .loop .inv .0, c .before .before .before .before .loop-test .taken)
 
 loop-less : tie.Need-loop-less Inv-loop μ-loop
 loop-less c = omega (arith, c .before .before .before .before .loop-test .taken)
@@ -45,24 +48,17 @@ loop-again c =
     let w = c .before .before .before .before in
     let l = w .before in
     let a = l .before .before .args in
-    let e : l .loop .r + 8 ≤ a .lines = omega (arith, l .loop .inv .0, w .loop-test .taken) in
-    (e, crossed-more (a .lines) (a .n) (l .loop .r) (l .loop .r + 8) (now (a .s)) (l .loop .s) _ (omega arith) e (l .loop .inv .1) (c .before .before .strip .ensures))
+    let e : l .loop .c + 64 ≤ a .n = omega (arith, l .loop .inv .0, w .loop-test .taken) in
+    (e, crossed-beside (a .lines) (a .n) (l .loop .c) (l .loop .c + 64) (now (a .s)) (l .loop .s) _ (omega arith) e (l .loop .inv .1) (c .before .before .tile .ensures))
 
-sub-strip : tie.Need-sub-strip Inv-loop μ-loop
-sub-strip c = search needs
-
--- the lines that are left end where all do
-ended : (c : tie.At-loop Inv-loop μ-loop) → let a = c .before .before .args in c .loop .r + (a .lines - c .loop .r) ≡ a .lines
-ended c = omega (arith, c .loop .inv .0)
-
-strip-requires-2 : tie.Need-strip-requires-2 Inv-loop μ-loop
-strip-requires-2 c κs =
+tile-requires-2 : tie.Need-tile-requires-2 Inv-loop μ-loop
+tile-requires-2 c κs =
     let l = c .before .before in
     let s = l .before .before in
-    some (s .args .lines) (s .args .n) (l .loop .r) (l .loop .r + (s .args .lines - l .loop .r)) (now (s .args .s)) (l .loop .s) (s .pre) (l .loop .inv .1 .long) (omega arith) (omega (arith, ended l))
+    some (s .args .lines) (s .args .n) (l .loop .c) (s .args .n) (now (s .args .s)) (l .loop .s) (s .pre) (l .loop .inv .1 .long) (l .loop .inv .0) (omega arith)
 
 same-length : tie.Need-same-length Inv-loop μ-loop
-same-length c = let p = c .before .before in p .strip2 .ensures .long ∙ p .before .before .before .loop .inv .1 .long
+same-length c = let p = c .before .before in p .tile2 .ensures .long ∙ p .before .before .before .loop .inv .1 .long
 
 returns : tie.Need-returns Inv-loop μ-loop
 returns c =
@@ -70,10 +66,9 @@ returns c =
     let l = p .before .before .before in
     let s = l .before .before in
     let a = s .args in
-    let t = p .strip2 .last .0 in
+    let t = p .tile2 .last .0 in
     crossed-all (a .lines) (a .n) (now (a .s)) t (s .pre)
-    (crossed-more (a .lines) (a .n) (l .loop .r) (a .lines) (now (a .s)) (l .loop .s) t (l .loop .inv .0) (omega arith) (l .loop .inv .1)
-    (subst (λ (e : ℕ). CrossedTo (a .lines) (a .n) (l .loop .r) e (a .n) (l .loop .s) t) (ended l) (p .strip2 .ensures)))
+    (crossed-beside (a .lines) (a .n) (l .loop .c) (a .n) (now (a .s)) (l .loop .s) t (l .loop .inv .0) (omega arith) (l .loop .inv .1) (p .tile2 .ensures))
 
 pub cross-spec : {M : Type 1} → statement M
 cross-spec =
@@ -83,11 +78,11 @@ cross-spec =
     μ-loop
     loop-holds
     sub-loop
-    strip-requires
-    add-r
+    add-tile
+    tile-requires
+    add-c
     loop-less
     loop-again
-    sub-strip
-    strip-requires-2
+    tile-requires-2
     same-length
     returns)

@@ -7,13 +7,13 @@ use mathlib.Core.Logic.{_⊎_, inl, inr, ⊎-elim}
 use mathlib.Core.List.{List, _++_}
 use mathlib.Core.Path.{_≡_, refl, sym, ap, subst, _∙_}
 use denote.Ref.{now}
-use lib.ListN.{length, set, take, drop, length-set, length-take, length-drop, List·getD-append}
+use lib.ListN.{length, set, take, drop, length-set, length-drop, List·getD-append}
 use lib.Seq.{getD-set-same, getD-set-other, getD-append-add, length-take-le}
 use lib.Ieee.{Float, nan, binary64}
 use Rattle.numbers.specs.Words.{at, tab, placed}
 use Rattle.numbers.specs.Write.{length-tab, getD-tab}
 use Rattle.numbers.specs.Places.{is-placed, part-ext}
-use Rattle.analysis.specs.Works.{bandOf, tapSum}
+use Rattle.analysis.specs.Works.{bandOf}
 use Rattle.analysis.proofs.work.bands_within.Statement.{statement}
 use Rattle.analysis.proofs.work.bands_within.Tie as tie
 

@@ -1,28 +1,12 @@
--- `isferghul_convolve` meets its contract: without a border nothing is called; with one, the entry's answer is told.
-use Rattle.isferghul.specs.Calls.{convolution-told, convolution-hidden}
-use mathlib.Core.Path.{sym, _∙_}
+-- `isferghul_convolve` meets its contract: the call below promises it, of the centre as the machine reads it back.
+use Rattle.line_calls.specs.Calls.{centred}
 use Rattle.convolution.specs.Places.{back}
 use borrow.Author.Needs.{needs}
 use Rattle.isferghul.proofs.lines.isferghul_convolve.Statement.{statement}
 use Rattle.isferghul.proofs.lines.isferghul_convolve.Tie as tie
 
-no-border-requires : tie.Need-no-border-requires
-no-border-requires c κs = search needs
-
-one-requires : tie.Need-one-requires
-one-requires c κs = search needs
-
-returns : tie.Need-returns
-returns c = convolution-hidden _ _ _ _ _ _ (sym (c .before .before .before .no-border .ensures) ∙ c .before .before .if1 .taken) (c .one .ensures)
-
-border-of-requires : tie.Need-border-of-requires
-border-of-requires c κs = search needs
-
 convolve-requires : tie.Need-convolve-requires
 convolve-requires c κs = search needs
-
-convolution-requires : tie.Need-convolution-requires
-convolution-requires c κs = search needs
 
 same-length : tie.Need-same-length
 same-length c = search needs
@@ -30,20 +14,9 @@ same-length c = search needs
 same-length-2 : tie.Need-same-length-2
 same-length-2 c = search needs
 
-returns-2 : tie.Need-returns-2
-returns-2 c = let n = c .before .before .before .before .before .before .before .before .before .before .before in let s = n .before .before .before .before .before in
-    convolution-told (sym (n .no-border .ensures) ∙ c .before .before .before .before .before .before .before .before .before .before .if1 .left) (c .before .before .before .before .before .before .before .before .before .border-of .ensures) (back (s .args .centre) (s .fits .centre)) (c .before .before .before .before .before .before .convolve .ensures) (c .convolution .ensures)
+returns : tie.Need-returns
+returns c = let s = c .before .before .before .before .before .before .before .before .before .before .before .before in
+    centred (back (s .args .centre) (s .fits .centre)) (c .before .before .before .before .convolve .ensures)
 
 pub isferghul-convolve-spec : {M : Type 1} → statement M
-isferghul-convolve-spec =
-    tie.close
-    (tie.spec
-    no-border-requires
-    one-requires
-    returns
-    border-of-requires
-    convolve-requires
-    convolution-requires
-    same-length
-    same-length-2
-    returns-2)
+isferghul-convolve-spec = tie.close (tie.spec convolve-requires same-length same-length-2 returns)

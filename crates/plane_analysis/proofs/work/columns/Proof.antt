@@ -4,11 +4,11 @@ use borrow.Rule.Slice.PartMut.{mid-len, same-len-mid}
 use Prim.Native.Nat.{ℕ, _+_, _-_, _*_, _≤_, _<_}
 use native.Mathlib.Omega.{arith}
 use mathlib.Core.Logic.{inr}
-use mathlib.Core.Path.{_≡_, refl, sym, ap, _∙_}
-use mathlib.Core.List.{List, _++_}
+use mathlib.Core.Path.{_≡_, refl, sym, _∙_}
+use mathlib.Core.List.{_++_}
 use denote.Ref.{now}
 use lib.ListN.{length, take, drop}
-use lib.Ieee.{Float, binary64}
+use lib.Ieee.{binary64}
 use Rattle.bank.specs.Lengths.{pairs, paddedLength}
 use Rattle.analysis.specs.Lines.{band}
 use Rattle.analysis.specs.Tested.{pads, whole}

@@ -3,13 +3,12 @@ use borrow.Author.Needs.{needs}
 use borrow.Rule.Slice.PartMut.{mid-len, same-len-mid}
 use Prim.Native.Nat.{ℕ, _+_, _-_, _*_, _≤_, _<_}
 use native.Mathlib.Omega.{arith}
-use mathlib.Core.Path.{_≡_, refl, sym, ap, subst, _∙_}
-use mathlib.Core.List.{List}
+use mathlib.Core.Path.{_≡_, refl, sym, ap, subst}
 use denote.Ref.{now}
 use lib.ListN.{length, take, drop}
-use lib.Ieee.{Float, binary64}
-use Rattle.bank.specs.Lengths.{Analysable, pairs, paddedLength}
-use Rattle.tables.specs.Stored.{line-end, stored-none}
+use lib.Ieee.{binary64}
+use Rattle.bank.specs.Lengths.{paddedLength}
+use Rattle.tables.specs.Stored.{line-end}
 use Rattle.plane_analysis.specs.Works.{Rowing, Rowed}
 use Rattle.plane_analysis.specs.Steps.{rowed-none, rowed-next}
 use Rattle.plane_analysis.proofs.work.rows.Statement.{statement}

@@ -1,12 +1,9 @@
 -- `plane_analysis::work::split_plane` meets its contract: rows, their crossing, and the columns of either half of it are the four bands, and none of them reaches beyond the need.
-use borrow.Author.Needs.{needs}
-use Prim.Native.Nat.{ℕ, _+_, _*_, _≤_}
+use Prim.Native.Nat.{_+_, _*_}
 use native.Mathlib.Omega.{arith}
-use mathlib.Core.Path.{_≡_, refl, sym, ap, _∙_}
-use mathlib.Core.List.{List, _++_}
+use mathlib.Core.Path.{refl, _∙_}
 use denote.Ref.{now}
-use lib.ListN.{length, take, drop}
-use lib.Ieee.{Float, binary64}
+use lib.Ieee.{binary64}
 use Rattle.bank.specs.Lengths.{pairs}
 use Rattle.planes.specs.Areas.{few-pairs, row-area}
 use Rattle.plane_analysis.specs.Steps.{area-halves}

@@ -1,7 +1,7 @@
 -- `plane_synthesis::work::join_plane` meets its contract: the columns of either half, their crossing, and the rows read there are the plane, and none of them reaches beyond the need.
 use borrow.Author.Needs.{needs}
 use borrow.Rule.Slice.PartMut.{putMid, mid-len, same-len-mid}
-use Prim.Native.Nat.{ℕ, _+_, _-_, _*_, _≤_}
+use Prim.Native.Nat.{_+_, _-_, _*_}
 use native.Mathlib.Omega.{arith}
 use mathlib.Core.Path.{_≡_, refl, sym, ap, _∙_}
 use mathlib.Core.List.{List, _++_}

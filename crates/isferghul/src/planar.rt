@@ -1,0 +1,137 @@
+// Planes, for C: the lengths to lend, the four bands and back, and two bands compared.
+ghost use Rattle.plane_calls.specs.FourBands.{PlaneAnalysisTold, PlaneSynthesisTold};
+ghost use Rattle.isferghul.specs.Planes.{PlaneBandWidthTold, PlaneBandHeightTold, PlaneBandLengthTold, PlaneScratchTold, ComparisonTold};
+use comparing::compare_bands;
+use plane_calls::joining::synthesise_plane;
+use plane_calls::splitting::analyse_plane;
+use plane_telling::comparison_told;
+use plane_telling::size_told;
+use planes::sizes;
+
+#[no_mangle]
+pub extern "C" fn isferghul_plane_band_width(
+    width: usize,
+    height: usize,
+    f: usize,
+    carried: &mut [usize; 2],
+) -> u64
+    ensures { λ r. ⌜ PlaneBandWidthTold width height f (now (carried .entry)) r (now (carried .exit)) ⌝ }
+{
+    size_told(sizes::plane_band_width(width, height, f), carried)
+}
+
+#[no_mangle]
+pub extern "C" fn isferghul_plane_band_height(
+    width: usize,
+    height: usize,
+    f: usize,
+    carried: &mut [usize; 2],
+) -> u64
+    ensures { λ r. ⌜ PlaneBandHeightTold width height f (now (carried .entry)) r (now (carried .exit)) ⌝ }
+{
+    size_told(sizes::plane_band_height(width, height, f), carried)
+}
+
+#[no_mangle]
+pub extern "C" fn isferghul_plane_band_length(
+    width: usize,
+    height: usize,
+    f: usize,
+    carried: &mut [usize; 2],
+) -> u64
+    ensures { λ r. ⌜ PlaneBandLengthTold width height f (now (carried .entry)) r (now (carried .exit)) ⌝ }
+{
+    size_told(sizes::plane_band_length(width, height, f), carried)
+}
+
+#[no_mangle]
+pub extern "C" fn isferghul_plane_scratch(
+    width: usize,
+    height: usize,
+    f: usize,
+    carried: &mut [usize; 2],
+) -> u64
+    ensures { λ r. ⌜ PlaneScratchTold width height f (now (carried .entry)) r (now (carried .exit)) ⌝ }
+{
+    size_told(sizes::plane_scratch(width, height, f), carried)
+}
+
+#[no_mangle]
+pub extern "C" fn isferghul_analyse_plane(
+    border: usize,
+    low: &[f64],
+    high: &[f64],
+    plane: &[f64],
+    width: usize,
+    height: usize,
+    ll: &mut [f64],
+    lh: &mut [f64],
+    hl: &mut [f64],
+    hh: &mut [f64],
+    scratch: &mut [f64],
+    carried: &mut [usize; 2],
+) -> u64
+    ensures { λ r. ⌜ PlaneAnalysisTold border (now (low .entry)) (now (high .entry)) (now (plane .entry)) width height (now (ll .entry)) (now (lh .entry)) (now (hl .entry)) (now (hh .entry)) (now (scratch .entry)) (now (carried .entry))
+        r (now (ll .exit)) (now (lh .exit)) (now (hl .exit)) (now (hh .exit)) (now (scratch .exit)) (now (carried .exit)) ⌝ }
+{
+    analyse_plane(
+        border,
+        low,
+        high,
+        plane,
+        width,
+        height,
+        ll,
+        lh,
+        hl,
+        hh,
+        scratch,
+        carried,
+    )
+}
+
+// No border: synthesis reads none.
+#[no_mangle]
+pub extern "C" fn isferghul_synthesise_plane(
+    low: &[f64],
+    high: &[f64],
+    ll: &[f64],
+    lh: &[f64],
+    hl: &[f64],
+    hh: &[f64],
+    width: usize,
+    height: usize,
+    plane: &mut [f64],
+    scratch: &mut [f64],
+    carried: &mut [usize; 2],
+) -> u64
+    ensures { λ r. ⌜ PlaneSynthesisTold (now (low .entry)) (now (high .entry)) (now (ll .entry)) (now (lh .entry)) (now (hl .entry)) (now (hh .entry)) width height (now (plane .entry)) (now (scratch .entry)) (now (carried .entry))
+        r (now (plane .exit)) (now (scratch .exit)) (now (carried .exit)) ⌝ }
+{
+    synthesise_plane(
+        low,
+        high,
+        ll,
+        lh,
+        hl,
+        hh,
+        width,
+        height,
+        plane,
+        scratch,
+        carried,
+    )
+}
+
+#[no_mangle]
+pub extern "C" fn isferghul_compare_bands(
+    first: &[f64],
+    second: &[f64],
+    width: usize,
+    height: usize,
+    carried: &mut [usize; 2],
+) -> u64
+    ensures { λ r. ⌜ ComparisonTold (now (first .entry)) (now (second .entry)) width height (now (carried .entry)) r (now (carried .exit)) ⌝ }
+{
+    comparison_told(compare_bands(first, second, width, height), carried)
+}

@@ -1,0 +1,3 @@
+// What the exports on one line do, each told of the caller's own tap lists.
+pub mod lines;
+pub mod taps;

@@ -1,0 +1,60 @@
+-- `comparison_told` meets its contract: each arm tells its own number, and its values where it has any.
+use Rattle.comparing.specs.Comparings.{valuesOf}
+use Rattle.plane_telling.specs.Comparisons.{numberTold}
+use Rattle.telling.specs.Telling.{told-as}
+use borrow.Author.Needs.{needs}
+use Rattle.plane_telling.proofs.comparison_told.Statement.{statement}
+use Rattle.plane_telling.proofs.comparison_told.Tie as tie
+
+enum-told : tie.Need-enum-told
+enum-told c = search needs
+
+enum-known-answer : tie.Need-enum-known-answer
+enum-known-answer c = search needs
+
+two-requires : tie.Need-two-requires
+two-requires c κs = search needs
+
+enum-told-2 : tie.Need-enum-told-2
+enum-told-2 c = search needs
+
+enum-known-answer-2 : tie.Need-enum-known-answer-2
+enum-known-answer-2 c = search needs
+
+two-requires-2 : tie.Need-two-requires-2
+two-requires-2 c κs = search needs
+
+enum-told-3 : tie.Need-enum-told-3
+enum-told-3 c = search needs
+
+returns : tie.Need-returns
+returns c = search needs
+
+returns-2 : tie.Need-returns-2
+returns-2 c = told-as numberTold valuesOf (c .before .before .before .answer .given .1) (c .two .ensures)
+
+returns-3 : tie.Need-returns-3
+returns-3 c = search needs
+
+returns-4 : tie.Need-returns-4
+returns-4 c = told-as numberTold valuesOf (c .before .before .before .answer2 .given .1) (c .two2 .ensures)
+
+returns-5 : tie.Need-returns-5
+returns-5 c = search needs
+
+pub comparison-told-spec : {M : Type 1} → statement M
+comparison-told-spec =
+    tie.close
+    (tie.spec
+    enum-told
+    enum-known-answer
+    two-requires
+    enum-told-2
+    enum-known-answer-2
+    two-requires-2
+    enum-told-3
+    returns
+    returns-2
+    returns-3
+    returns-4
+    returns-5)
