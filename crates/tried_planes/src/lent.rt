@@ -39,8 +39,8 @@ pub fn bands(
     );
 }
 
-// A target and a scratch for a synthesis.
-pub fn target(
+// A plane and a scratch for a synthesis.
+pub fn plane(
     name: &[u8],
     bank: Bank,
     ll: &[f64],

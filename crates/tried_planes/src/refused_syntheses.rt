@@ -1,6 +1,6 @@
 // Refused syntheses of planes: where several tests fail the first answers, and the sevens stay.
 ghost use Prim.Native.Nat.{_≤_};
-use crate::lent::target;
+use crate::lent::plane;
 use crate::told::of_planes;
 use bank::Bank;
 use plane_synthesis::plane_synthesis_answer;
@@ -11,7 +11,7 @@ use trying::print::heading;
 fn of_band(name: &[u8], bank: Bank, band: &[f64], width: usize, height: usize, p: usize, s: usize)
     requires { ⌜ (p ≤ 50) × (s ≤ 180) ⌝ }
 {
-    target(name, bank, band, band, band, band, width, height, 7.0, p, s);
+    plane(name, bank, band, band, band, band, width, height, 7.0, p, s);
 }
 
 // No buffer has its length.
@@ -73,7 +73,7 @@ pub fn lengths() {
 }
 
 fn odd(name: &[u8], ll: &[f64], lh: &[f64], hl: &[f64], hh: &[f64]) {
-    target(name, counted(2), ll, lh, hl, hh, 5, 3, 7.0, 15, 42);
+    plane(name, counted(2), ll, lh, hl, hh, 5, 3, 7.0, 15, 42);
 }
 
 pub fn wrong_bands() {

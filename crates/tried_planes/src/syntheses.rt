@@ -1,7 +1,7 @@
 // Syntheses of planes from bands of their own: sides below the taps, zeros with a sign, and the most taps.
 ghost use Prim.Native.Nat.{_≤_};
 use crate::calls::join;
-use crate::lent::target;
+use crate::lent::plane;
 use bank::making::bank;
 use bank::making::mirrored;
 use border::Border;
@@ -9,7 +9,7 @@ use border::Border;
 // Place r of column c is at 3 c + r; every band tells itself from the others.
 pub fn four_by_six() {
     let made = bank(&[1.0, 2.0], &[3.0, -5.0], Border::Zeros);
-    target(
+    plane(
         b"4 by 6 of four bands",
         made.bank,
         &[1.0, 2.0, 3.0, 4.0, 5.0, 6.0],
@@ -33,7 +33,7 @@ fn short(name: &[u8], width: usize, height: usize, p: usize, s: usize, held: f64
         &[0.5, 0.0, 0.0, 0.25],
         Border::Zeros,
     );
-    target(
+    plane(
         name,
         made.bank,
         &[1.0, 2.0, 3.0, 4.0, 5.0, 6.0],
@@ -58,7 +58,7 @@ pub fn below_taps() {
 pub fn zeros() {
     let made = bank(&[1.0, 1.0], &[1.0, 1.0], Border::Zeros);
     let zeros = [-0.0f64; 2];
-    target(
+    plane(
         b"bands of -0 onto -0",
         made.bank,
         &zeros,

@@ -3,8 +3,8 @@ use mathlib.Core.Path.{sym}
 use native.Mathlib.Omega.{arith}
 use lib.Seq.{length-take-le}
 use borrow.Author.Needs.{needs}
-use Rattle.tried_planes.proofs.lent.target.Statement.{statement}
-use Rattle.tried_planes.proofs.lent.target.Tie as tie
+use Rattle.tried_planes.proofs.lent.plane.Statement.{statement}
+use Rattle.tried_planes.proofs.lent.plane.Tie as tie
 
 array-borrow-prefix-plane : tie.Need-array-borrow-prefix-plane
 array-borrow-prefix-plane c = search needs
@@ -24,8 +24,8 @@ join-requires c κs = search needs
 returns : tie.Need-returns
 returns c = search needs
 
-pub target-spec : {M : Type 1} → statement M
-target-spec =
+pub plane-spec : {M : Type 1} → statement M
+plane-spec =
     tie.close
     (tie.spec
     array-borrow-prefix-plane
