@@ -7,8 +7,8 @@ use Rattle.bank.specs.declared.making.Making.{Making}
 use Rattle.bank.specs.declared.making.Making.the-variants as making
 use Rattle.bank.specs.Banks as Banks
 use Rattle.bank.specs.Sizes as Sizes
-use Prim.Native.Nat.{_%_, _<_, _≤_, suc, zero, ℕ, _-_, _/_}
-use Rattle.bank.specs.Lengths.{badTaps, wholePad, GoodTaps, Analysable}
+use Prim.Native.Nat.{_%_, _<_, _≤_, suc, zero, ℕ, _+_, _-_, _*_, _/_}
+use Rattle.bank.specs.Lengths.{badTaps, pairs, wholePad, GoodTaps, Analysable}
 use Rattle.numbers.specs.Tests.{neither, passed}
 use Rattle.numbers.specs.Words.{longest, whenDone}
 use borrow.Author.Tests.{eqb-false, eqb-true, ltb-false, not-false, eq-eqb, ne-eqb, le-ltb}
@@ -71,6 +71,22 @@ sized-alike n f l k r e h = go (badTaps f) (ltb longest n) (ltb n f) e
 -- the left pad, half of the whole padding rounded down, is f - 2
 pub left-pad : (n f : ℕ) → GoodTaps f → wholePad n f / 2 ≡ f - 2
 left-pad n f g = omega (arith, g .two, g .even)
+
+-- the right pad, the rest of it, is f - 2 for even n and f - 1 for odd n
+pub right-pad : (n f : ℕ) → GoodTaps f → (n % 2 ≡ 0 → wholePad n f - wholePad n f / 2 ≡ f - 2) × (n % 2 ≡ 1 → wholePad n f - wholePad n f / 2 ≡ f - 1)
+right-pad n f g =
+    let left = left-pad n f g in
+    let two = g .two in
+    let half : f ≡ 2 * (f / 2) = omega (arith, g .even) in (
+      λ e.
+          let n′ : n ≡ 2 * (n / 2) = omega (arith, e) in
+          let m : pairs n f ≡ n / 2 + (f / 2 - 1) = omega (arith, half, n′, two) in
+          omega (arith, m, left, half, n′, two),
+      λ o.
+          let n′ : n ≡ 2 * (n / 2) + 1 = omega (arith, o) in
+          let m : pairs n f ≡ n / 2 + f / 2 = omega (arith, half, n′, two) in
+          omega (arith, m, left, half, n′, two),
+    )
 
 -- ---- making
 pub refused-bank : {b : Border} {r : Making} {bank : Bank} (new : Bank) → r ≡ making.Taps → bank ≡ Banks.noBank b → bank ≡ whenDone (Banks.numberOf r) new (Banks.noBank b)

@@ -31,7 +31,7 @@ pub fn split(centre: i64) -> Place
     }
 }
 
-// Past a limit: 1,048,576 samples, 64 taps, or a centre of 32 bits.
+// More than 1,048,576 samples, more than 64 taps, or a centre that 32 bits do not hold.
 pub fn beyond(n: usize, f: usize, centre: Place) -> bool
     ensures { λ r. ⌜ r ≡ beyond n f (centreOf centre) ⌝ }
 {

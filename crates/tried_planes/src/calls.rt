@@ -30,6 +30,13 @@ fn left(answer: Planes, width: usize, height: usize, f: usize, scratch: &[f64]) 
     }
 }
 
+fn bands(ll: &[f64], lh: &[f64], hl: &[f64], hh: &[f64]) {
+    floats(b"LL", ll);
+    floats(b"LH", lh);
+    floats(b"HL", hl);
+    floats(b"HH", hh);
+}
+
 pub fn split(
     name: &[u8],
     bank: Bank,
@@ -46,10 +53,7 @@ pub fn split(
     let f = bank.taps;
     let answer = analyse_plane(bank, plane, width, height, ll, lh, hl, hh, scratch);
     of_planes(answer);
-    floats(b"LL", ll);
-    floats(b"LH", lh);
-    floats(b"HL", hl);
-    floats(b"HH", hh);
+    bands(ll, lh, hl, hh);
     left(answer, width, height, f, scratch);
 }
 

@@ -10,87 +10,85 @@ fn compared(name: &[u8], first: &[f64], second: &[f64], width: usize, height: us
 }
 
 // Six places, as two columns of three or as three of two.
+fn with_six(name: &[u8], second: &[f64], width: usize, height: usize) {
+    compared(name, &[1.0, 2.0, 3.0, 4.0, 5.0, 6.0], second, width, height);
+}
+
 pub fn places() {
-    let six = [1.0, 2.0, 3.0, 4.0, 5.0, 6.0];
-    compared(b"equal", &six, &six, 2, 3);
-    compared(
+    let two_differ = [1.0, 2.0, 0.0, 4.0, 0.0, 6.0];
+    with_six(b"equal", &[1.0, 2.0, 3.0, 4.0, 5.0, 6.0], 2, 3);
+    with_six(
         b"the first place and the last",
-        &six,
         &[0.0, 2.0, 3.0, 4.0, 5.0, 0.0],
         2,
         3,
     );
-    compared(
-        b"the third and the fifth, two columns",
-        &six,
-        &[1.0, 2.0, 0.0, 4.0, 0.0, 6.0],
-        2,
-        3,
-    );
-    compared(
-        b"the third and the fifth, three columns",
-        &six,
-        &[1.0, 2.0, 0.0, 4.0, 0.0, 6.0],
-        3,
-        2,
-    );
-    compared(
+    with_six(b"the third and the fifth, two columns", &two_differ, 2, 3);
+    with_six(b"the third and the fifth, three columns", &two_differ, 3, 2);
+    with_six(
         b"the second column first",
-        &six,
         &[1.0, 2.0, 3.0, 0.0, 5.0, 6.0],
         2,
         3,
     );
-    compared(
-        b"the last place",
-        &six,
-        &[1.0, 2.0, 3.0, 4.0, 5.0, 0.0],
-        2,
-        3,
-    );
-    compared(
-        b"one column, the last row",
-        &six,
-        &[1.0, 2.0, 3.0, 4.0, 5.0, 0.0],
-        1,
-        6,
-    );
-    compared(
-        b"one row, the last column",
-        &six,
-        &[1.0, 2.0, 3.0, 4.0, 5.0, 0.0],
-        6,
-        1,
-    );
 }
 
-// Every NaN is one NaN; the zeros are two.
-pub fn kinds() {
+pub fn last_places() {
+    let last_differs = [1.0, 2.0, 3.0, 4.0, 5.0, 0.0];
+    with_six(b"the last place", &last_differs, 2, 3);
+    with_six(b"one column, the last row", &last_differs, 1, 6);
+    with_six(b"one row, the last column", &last_differs, 6, 1);
+}
+
+// One place.
+fn alone(name: &[u8], x: f64, y: f64) {
+    compared(name, &[x], &[y], 1, 1);
+}
+
+// Two places, of which the first are alike.
+fn behind_one(name: &[u8], x: f64, y: f64) {
+    compared(name, &[1.0, x], &[1.0, y], 2, 1);
+}
+
+// Every NaN is one NaN.
+pub fn nans() {
     let inf = 1.0 / 0.0;
     let nan = 0.0 / 0.0;
     compared(b"NaN and another NaN", &[nan, 1.0], &[inf - inf, 2.0], 1, 2);
-    compared(b"NaN and -NaN, and no more", &[nan], &[-nan], 1, 1);
-    compared(b"NaN and 1", &[nan], &[1.0], 1, 1);
-    compared(b"1 and NaN", &[1.0], &[nan], 1, 1);
-    compared(b"NaN and infinity", &[nan], &[inf], 1, 1);
-    compared(b"+0 and -0", &[1.0, 0.0], &[1.0, -0.0], 2, 1);
-    compared(b"-0 and +0", &[1.0, -0.0], &[1.0, 0.0], 2, 1);
-    compared(b"-0 and -0", &[-0.0], &[-0.0], 1, 1);
+    alone(b"NaN and -NaN, and no more", nan, -nan);
+    alone(b"NaN and 1", nan, 1.0);
+    alone(b"1 and NaN", 1.0, nan);
+    alone(b"NaN and infinity", nan, inf);
+}
+
+// The zeros are two.
+pub fn kinds() {
+    let inf = 1.0 / 0.0;
+    behind_one(b"+0 and -0", 0.0, -0.0);
+    behind_one(b"-0 and +0", -0.0, 0.0);
+    alone(b"-0 and -0", -0.0, -0.0);
     compared(b"infinities", &[inf, -inf], &[inf, inf], 1, 2);
-    compared(b"1 and what is next", &[1.0], &[1.0000000000000002], 1, 1);
+    alone(b"1 and what is next", 1.0, 1.0000000000000002);
+}
+
+// No second band.
+fn unmatched(name: &[u8], width: usize, height: usize) {
+    with_six(name, &[1.0f64; 0], width, height);
 }
 
 // Where several tests fail, the first answers.
 pub fn refused() {
+    compared(b"nothing at all", &[1.0f64; 0], &[1.0f64; 0], 0, 0);
+    unmatched(b"no columns, all wrong", 0, 1048577);
+    unmatched(b"no rows, all wrong", 18446744073709551615, 0);
+    unmatched(b"1048577 columns, all wrong", 1048577, 1);
+    unmatched(b"1048577 rows, all wrong", 1, 1048577);
+    unmatched(b"4097 columns of 4096, all wrong", 4097, 4096);
+    unmatched(b"both bands wrong", 2, 2);
+}
+
+pub fn refused_lengths() {
     let six = [1.0, 2.0, 3.0, 4.0, 5.0, 6.0];
-    let none = [1.0f64; 0];
-    compared(b"nothing at all", &none, &none, 0, 0);
-    compared(b"no columns, all wrong", &six, &none, 0, 1048577);
-    compared(b"no rows, all wrong", &six, &none, 18446744073709551615, 0);
-    compared(b"1048577 columns, all wrong", &six, &none, 1048577, 1);
-    compared(b"1048577 rows, all wrong", &six, &none, 1, 1048577);
-    compared(b"4097 columns of 4096, all wrong", &six, &none, 4097, 4096);
-    compared(b"both bands wrong", &six, &none, 2, 2);
     compared(b"the first band short", &[1.0f64; 5], &six, 2, 3);
     compared(
         b"the second band long, where they differ",
@@ -99,7 +97,7 @@ pub fn refused() {
         2,
         1,
     );
-    compared(b"no second band", &six, &none, 2, 3);
+    unmatched(b"no second band", 2, 3);
 }
 
 fn told(name: &[u8], width: usize, height: usize, first: usize, second: usize) {

@@ -52,8 +52,11 @@ fn refused() {
 
 fn compared() {
     comparings::places();
+    comparings::last_places();
+    comparings::nans();
     comparings::kinds();
     comparings::refused();
+    comparings::refused_lengths();
     comparings::limits();
 }
 

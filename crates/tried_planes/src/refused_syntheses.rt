@@ -72,37 +72,46 @@ pub fn lengths() {
     );
 }
 
-fn odd(name: &[u8], ll: &[f64], lh: &[f64], hl: &[f64], hh: &[f64]) {
-    plane(name, counted(2), ll, lh, hl, hh, 5, 3, 7.0, 15, 42);
+// No HH.
+fn odd(name: &[u8], ll: &[f64], lh: &[f64], hl: &[f64]) {
+    plane(
+        name,
+        counted(2),
+        ll,
+        lh,
+        hl,
+        &[1.0f64; 0],
+        5,
+        3,
+        7.0,
+        15,
+        42,
+    );
 }
 
 pub fn wrong_bands() {
-    let none = [1.0f64; 0];
-    let five = [1.0f64; 5];
     let six = [1.0f64; 6];
     let seven = [1.0f64; 7];
     let eight = [1.0f64; 8];
-    odd(b"no band right, sides odd", &five, &seven, &eight, &none);
+    odd(b"no band right, sides odd", &[1.0f64; 5], &seven, &eight);
     odd(
         b"LH a place too long, HL and HH wrong, sides odd",
         &six,
         &seven,
         &eight,
-        &none,
     );
     odd(
         b"HL two places too long, HH wrong, sides odd",
         &six,
         &six,
         &eight,
-        &none,
     );
-    odd(b"no HH, sides odd", &six, &six, &six, &none);
-    odd(b"both sides odd", &six, &six, &six, &six);
+    odd(b"no HH, sides odd", &six, &six, &six);
 }
 
 // Synthesis gives a place more.
 pub fn odd_sides() {
+    of_band(b"both sides odd", counted(2), &[1.0f64; 6], 5, 3, 15, 42);
     of_band(b"the height odd", counted(2), &[1.0f64; 4], 4, 3, 12, 29);
     of_band(b"the width odd", counted(2), &[1.0f64; 6], 5, 4, 20, 54);
     of_band(

@@ -6,6 +6,7 @@ use bank::making::Making;
 use bank::sizes::Size;
 use convolution::Convolution;
 use convolution::pads::Scratch;
+use packed::Levels;
 use synthesis::Synthesis;
 use telling::told;
 
@@ -82,5 +83,11 @@ pub fn of_synthesis(a: Synthesis) {
 pub fn of_convolution(a: Convolution) {
     let mut carried = [NOTHING; 2];
     let no = told::convolution(a, &mut carried);
+    answer(no, &carried);
+}
+
+pub fn of_levels(a: Levels) {
+    let mut carried = [NOTHING; 2];
+    let no = told::levels(a, &mut carried);
     answer(no, &carried);
 }

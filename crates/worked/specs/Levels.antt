@@ -1,4 +1,4 @@
--- Document 01's examples of levels, in the document's own numbers, and a line of five there and back over two levels: each is computed.
+-- Levels besides document 01's examples: what else is to say of their lines, and a line of five there and back over two levels; each is computed.
 use mathlib.Core.Path.{_≡_, refl}
 use mathlib.Core.List.{List, [], _∷_}
 use lib.IntN.{pos, negsuc}
@@ -12,30 +12,24 @@ use Rattle.analysis.specs.Sums.{dot, analysed}
 use Rattle.analysis.specs.Lines.{band}
 use Rattle.synthesis.specs.Sums.{joined}
 use Rattle.synthesis.specs.Lines.{synthesised}
-use Rattle.packed.specs.declared.Levels.the-variants.{MinFilterSize, BufferWasTooSmallForLevel}
-use Rattle.packed.specs.Lengths.{lineAfter, tooShort, detailsTo, packedLength, levelStart, levelCount, longLines, mostLevels, levelsScratch, restoringLength}
-use Rattle.packed.specs.Answers.{askedOf, heldOf, numberOf, valuesOf}
+use Rattle.packed.specs.declared.Levels.the-variants.{MinFilterSize}
+use Rattle.packed.specs.Lengths.{lineAfter, tooShort, detailsTo, levelStart, longLines, mostLevels, levelsScratch, restoringLength}
+use Rattle.packed.specs.Answers.{askedOf, heldOf}
 use Rattle.levels.specs.Analyses.{answerOf}
 use Rattle.levels.specs.Lines.{lineOf, detailsOf, packedLine}
 use Rattle.restoring.specs.Lines.{restoredAfter, restored}
 
--- P2: four taps and three samples: 1, which carries 3 and 4; for two levels 9
-p2-levels : (answerOf 3 4 1 6 14 ≡ MinFilterSize 3 4) × (numberOf (answerOf 3 4 1 6 14) ≡ 1) × (valuesOf (answerOf 3 4 1 6 14) ≡ 3 ∷ 4 ∷ [])
-    × (answerOf 3 4 2 9 14 ≡ BufferWasTooSmallForLevel) × (numberOf (answerOf 3 4 2 9 14) ≡ 9)
-unfolding answerOf heldOf askedOf badTaps tooShort lineAfter detailsTo
-p2-levels = (refl, refl, refl, refl, refl)
+-- P2's line, analysed over one level, is refused as it is without levels
+p2-one : answerOf 3 4 1 6 14 ≡ MinFilterSize 3 4
+unfolding answerOf heldOf askedOf badTaps tooShort lineAfter
+p2-one = refl
 
--- P3: four taps, four samples and two levels: 9, since 3 is left
-p3 : (lineAfter 4 4 1 ≡ 3) × (answerOf 4 4 2 9 14 ≡ BufferWasTooSmallForLevel) × (mostLevels 4 4 ≡ 1)
-unfolding answerOf heldOf askedOf badTaps tooShort lineAfter detailsTo longLines
-p3 = (refl, refl, refl)
+-- P3's line allows one level
+p3-most : mostLevels 4 4 ≡ 1
+unfolding lineAfter longLines
+p3-most = refl
 
--- P10: two taps, five samples and two levels: parts of 3, 2 and 2, and 7 packed
-p10 : (levelCount 5 2 2 1 ≡ 3) × (levelCount 5 2 2 2 ≡ 2) × (levelCount 5 2 2 0 ≡ 2) × (packedLength 5 2 2 ≡ 7)
-unfolding lineAfter detailsTo
-p10 = (refl, refl, refl, refl)
-
--- they begin at 0, 3 and 5; the scratch takes 6 padded and two bands of 3, either work buffer 6; three levels are the most
+-- P10's parts begin at 0, 3 and 5; the scratch takes 6 padded and two bands of 3, either work buffer 6; three levels are the most
 p10-besides : (levelStart 5 2 2 1 ≡ 0) × (levelStart 5 2 2 2 ≡ 3) × (levelStart 5 2 2 0 ≡ 5) × (levelsScratch 5 2 ≡ 12) × (restoringLength 5 2 ≡ 6) × (mostLevels 5 2 ≡ 3)
 unfolding lineAfter detailsTo longLines
 p10-besides = (refl, refl, refl, refl, refl, refl)

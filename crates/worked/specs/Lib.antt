@@ -1,7 +1,9 @@
--- Document 01's worked examples, each a statement about the definitions that the entries' promises cite; and of exact restoring, three banks that meet its premises and a line past its bound.
+-- Document 01's examples P1 to P12 as one list with one claim over it (Questions, Examples, Together); other worked cases, each a statement about the same definitions; and of exact restoring, three banks that meet its premises and a line past its bound.
+pub mod Questions
+pub mod Examples
+pub mod Together
 pub mod Whole
 pub mod Lines
-pub mod Kernels
 pub mod Levels
 pub mod Planes
 pub mod PlaneAnswers
@@ -9,3 +11,4 @@ pub mod Comparing
 pub mod Meeting
 pub mod Premised
 pub mod Restoring
+pub mod Program

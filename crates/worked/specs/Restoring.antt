@@ -23,10 +23,10 @@ use Rattle.worked.specs.Meeting.{tapsMeet, samplesMeet, boundMeets, held
 use Rattle.worked.specs.Premised.{premised}
 use Rattle.worked.specs.Whole.{floats, eight, eightHigh, tens}
 
--- ---- the bank of P8: S = 50, T = 12
-p8-sums : (squares eight ≡ pos 50) × (sizes eight ≡ 12)
+-- ---- the bank of P8: T = 12
+p8-sizes : sizes eight ≡ 12
 unfolding sum
-p8-sums = (refl, refl)
+p8-sizes = refl
 
 -- its samples, in both formats
 p8 : (b : Border) → Met binary64 b eight tens 40

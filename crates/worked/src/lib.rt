@@ -1,4 +1,1 @@
-// The worked examples stand in specs/, computed; a crate has a function, so this one does nothing.
-pub fn nothing(x: u32) -> u32 {
-    x
-}
+// Definitions and laws alone: the worked examples stand in specs/, computed by the checker.

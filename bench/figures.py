@@ -1,0 +1,18 @@
+"""The figures that measure.py wrote: (operation, taps, n) to what a call costs the Rust and this library."""
+import cases
+
+
+def read(path):
+    costs = {}
+    with open(path) as file:
+        for line in file:
+            op, f, n, rust, ours = line.split()
+            costs[op, int(f), int(n)] = float(rust), float(ours)
+    return costs
+
+
+def growths(costs, case):
+    """How many times what n samples cost 4n cost, the Rust and here; nothing where 4n was not measured."""
+    op, f, n = case
+    more = costs.get((op, f, cases.fourfold(op, n)))
+    return [after / before for after, before in zip(more, costs[case])] if more else []

@@ -1,0 +1,85 @@
+"""Runs the bench's program on every case. bench/run calls it; see there for what is built first.
+
+    measure.py selftest|check|count|time WORK [RUNNER]
+
+WORK is the folder with the program and the plugin; RUNNER is what runs an x86-64 program where the processor cannot."""
+import os
+import shutil
+import subprocess
+import sys
+
+import cases
+
+LOOP = 2000004
+# a call is what one run more costs; of lines not the second, in which the Rust's allocator still settles
+FEW = {False: 2, True: 1}
+
+
+def stop(why):
+    sys.exit('bench/run: ' + why)
+
+
+class Bench:
+    def __init__(self, work, runner=None):
+        self.work = os.path.abspath(work)
+        self.program = os.path.join(self.work, 'bench')
+        self.runner = [runner] if runner else []
+
+    def said(self, *words):
+        return subprocess.run(self.runner + [self.program, *map(str, words)], check=True, capture_output=True, text=True).stdout.split()
+
+    def executed(self, program, *words):
+        """How many instructions the program executes. Its environment is empty and its name is short, so that its stack is the same everywhere."""
+        out = os.path.join(self.work, 'count.txt')
+        plugin = '%s,out=%s' % (os.path.join(self.work, 'count.so'), out)
+        # a processor with nothing beyond plain x86-64, so that the C library's copies use nothing else either
+        command = [shutil.which('qemu-x86_64'), '-cpu', 'qemu64', '-plugin', plugin, './' + program, *map(str, words)]
+        subprocess.run(command, check=True, env={}, cwd=self.work)
+        with open(out) as file:
+            return int(file.read())
+
+    def call(self, side, case):
+        """The instructions of one call."""
+        few = FEW[cases.plane(case[0])]
+        return self.executed('bench', 'count', side, *case, few + 1) - self.executed('bench', 'count', side, *case, few)
+
+
+def selftest(bench):
+    for _ in range(2):
+        counted = bench.executed('loop')
+        print('a loop of %d instructions: %d counted' % (LOOP, counted))
+        if counted != LOOP:
+            stop('the plugin does not count right')
+    for side in 'rust', 'ours':
+        first, second = (bench.executed('bench', 'count', side, 'levels', 8, 4096, 3) for _ in range(2))
+        print('one run counted twice, %s: %d and %d' % (side, first, second))
+        if first != second:
+            stop('a run counted twice has two counts')
+
+
+def check(bench):
+    compared = 0
+    for case in cases.CASES:
+        numbers, differ = map(int, bench.said('check', *case))
+        if differ or not numbers:
+            stop('%s: %d of %d numbers differ' % (' '.join(map(str, case)), differ, numbers))
+        compared += numbers
+    print('%d cases, %d numbers, all equal bit for bit' % (len(cases.CASES), compared))
+
+
+def write(bench, name, figure):
+    with open(os.path.join(bench.work, name), 'w') as file:
+        for case in cases.CASES:
+            print(*case, figure('rust', case), figure('ours', case), file=file)
+
+
+def count(bench):
+    write(bench, 'counts.txt', bench.call)
+
+
+def time(bench):
+    write(bench, 'times.txt', lambda side, case: bench.said('time', side, *case)[0])
+
+
+if __name__ == '__main__':
+    {'selftest': selftest, 'check': check, 'count': count, 'time': time}[sys.argv[1]](Bench(*sys.argv[2:]))

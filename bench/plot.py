@@ -1,0 +1,95 @@
+"""Draws the ratios of counts.   plot.py COUNTS SVG
+
+A line for each operation and number of taps; on it a dot for each size, left of 1 where this library executes fewer instructions than the Rust."""
+import sys
+
+import cases
+import figures
+
+WIDTH, LEFT, TOP, HIGH, GAP = 880, 200, 124, 20, 10
+FROM, TO, ACROSS = 0.2, 1.2, 480
+RATIOS = LEFT + ACROSS + 60
+GROWTHS = RATIOS + 90
+INK, PALE, OURS, WORSE = '#1b1b1b', '#666666', '#1f5fa8', '#c23b22'
+
+
+def text(x, y, words, colour=INK, size=13, anchor='start', weight='normal'):
+    return '<text x="%g" y="%g" fill="%s" font-size="%d" text-anchor="%s" font-weight="%s">%s</text>' % (x, y, colour, size, anchor, weight, words)
+
+
+def stroke(x, y, to_x, to_y, colour, width=1):
+    return '<line x1="%g" y1="%g" x2="%g" y2="%g" stroke="%s" stroke-width="%g"/>' % (x, y, to_x, to_y, colour, width)
+
+
+def across(ratio):
+    return LEFT + ACROSS * (ratio - FROM) / (TO - FROM)
+
+
+def dot(x, y, filled, colour):
+    return '<circle cx="%.1f" cy="%g" r="%g" fill="%s" stroke="%s" stroke-width="1.5"/>' % (x, y, 5 if filled else 4, colour if filled else '#ffffff', colour)
+
+
+def colour(ratio):
+    return WORSE if ratio > 1 else OURS
+
+
+def line_of(costs, op, f, y):
+    """The dots of one number of taps, by size; the largest is filled, drawn last and told in words."""
+    sizes = cases.sizes(op)
+    ratios = [costs[op, f, n][1] / costs[op, f, n][0] for n in sizes]
+    growth = figures.growths(costs, (op, f, sizes[-2]))[1]
+    return [
+        text(LEFT - 16, y + 4, f, PALE, anchor='end'),
+        stroke(across(min(ratios)), y, across(max(ratios)), y, '#b9c9dd', 2),
+        *[dot(across(ratio), y, n == sizes[-1], colour(ratio)) for n, ratio in zip(sizes, ratios)],
+        text(RATIOS, y + 4, '%.2f' % ratios[-1], colour(ratios[-1]), anchor='end'),
+        text(GROWTHS, y + 4, '%.2f' % growth, PALE, anchor='end'),
+    ]
+
+
+def lines(costs):
+    """All rows, a gap before each operation, and where they end."""
+    drawn, y = [], TOP
+    for op, taps in cases.TAPS.items():
+        drawn += [text(LEFT - 56, y + 4, cases.TITLES[op], anchor='end')]
+        for f in taps:
+            drawn += line_of(costs, op, f, y)
+            y += HIGH
+        y += GAP
+    return drawn, y - GAP
+
+
+def scale(top, bottom):
+    drawn = ['<rect x="%.1f" y="%d" width="%.1f" height="%d" fill="#fbeeeb"/>' % (across(1), top, across(TO) - across(1), bottom - top)]
+    for tenth in range(2, 13):
+        x, one = across(tenth / 10), tenth == 10
+        drawn += [stroke(x, top, x, bottom, INK if one else '#e4e4e4', 1.5 if one else 1), text(x, bottom + 18, '%.1f' % (tenth / 10), PALE, 12, 'middle')]
+    return drawn
+
+
+def heads():
+    return [
+        text(24, 30, 'Executed x86-64 instructions: ours for each one of the Rust', size=17, weight='bold'),
+        text(24, 54, 'Left of the line at 1.0 we take fewer than the Rust, right of it (red) more.', PALE),
+        dot(560, 50, True, OURS),
+        text(570, 54, '16,384 samples, or 4,096 x 4,096', PALE),
+        dot(560, 70, False, OURS),
+        text(570, 74, 'fewer, from 64, or from 512 x 512', PALE),
+        text(LEFT - 16, TOP - 22, 'taps', PALE, 12, 'end'),
+        text(RATIOS, TOP - 22, 'filled dot', PALE, 12, 'end'),
+        text(GROWTHS, TOP - 22, 'n to 4n', PALE, 12, 'end'),
+    ]
+
+
+def drawing(costs):
+    rows, bottom = lines(costs)
+    high = bottom + 32
+    return '\n'.join([
+        '<svg xmlns="http://www.w3.org/2000/svg" width="%d" height="%d" viewBox="0 0 %d %d" font-family="sans-serif">' % (WIDTH, high, WIDTH, high),
+        '<rect width="%d" height="%d" fill="#ffffff"/>' % (WIDTH, high),
+        *scale(TOP - 14, bottom - 6), *heads(), *rows, '</svg>', ''])
+
+
+if __name__ == '__main__':
+    with open(sys.argv[2], 'w') as file:
+        file.write(drawing(figures.read(sys.argv[1])))

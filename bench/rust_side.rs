@@ -1,0 +1,87 @@
+//! The Rust: its public calls with the bank in hand, lent what they take and allocating what they allocate.
+use crate::work::{LEVELS, Op, Work, half};
+use oracle::{BorderMode, FilterBank2D, MultiDwt, MultiLevelDwtRef, oracle as rust};
+
+const BORDER: BorderMode = BorderMode::Wrap;
+const DONE: &str = "the Rust is done";
+
+/// What calls over levels return; it is dropped when the next call is made.
+#[derive(Default)]
+pub struct Returned {
+    made: Option<MultiDwt<f64>>,
+    restored: Option<Vec<f64>>,
+}
+
+impl Returned {
+    /// Puts what was returned where the other side writes it.
+    pub fn put(self, w: &mut Work) {
+        if let Some(made) = &self.made {
+            let parts = made.to_ref();
+            w.packed = [parts.details.concat(), parts.approximations.to_vec()].concat();
+        }
+        if let Some(restored) = self.restored {
+            w.out = restored;
+        }
+    }
+}
+
+/// A packed buffer's parts, which the Rust takes one by one.
+fn parts(packed: &[f64], mut n: usize, f: usize) -> MultiLevelDwtRef<'_, f64> {
+    let (mut left, mut details) = (packed, vec![]);
+    for _ in 0..LEVELS {
+        n = half(n, f);
+        let (part, rest) = left.split_at(n);
+        details.push(part);
+        left = rest;
+    }
+    MultiLevelDwtRef { approximations: left, details }
+}
+
+/// The call of a case.
+pub fn call<'a>(op: Op, w: &'a mut Work, returned: &'a mut Returned) -> Box<dyn FnMut() + 'a> {
+    let bank = rust::bank(BORDER, &w.low, &w.high);
+    let (n, low, line, packed) = (w.n, &w.low[..], &w.line[..], &w.packed[..]);
+    let (bands, out, scratch) = (&mut w.bands[..], &mut w.out[..], &mut w.scratch[..]);
+    match op {
+        Op::Analysis => {
+            let [approx, detail] = bands else { unreachable!() };
+            Box::new(move || bank.execute_forward_with_scratch(line, approx, detail, scratch).expect(DONE))
+        }
+        Op::Synthesis => {
+            let [approx, detail] = bands else { unreachable!() };
+            Box::new(move || bank.execute_inverse(approx, detail, out).expect(DONE))
+        }
+        Op::Convolution => {
+            let convolve = oracle::made::convolution(BORDER);
+            Box::new(move || convolve(line, out, scratch, low, 0).expect(DONE))
+        }
+        Op::Levels => Box::new(move || {
+            returned.made = None;
+            returned.made = Some(bank.multi_dwt(line, LEVELS).expect(DONE));
+        }),
+        Op::Restoring => {
+            let parts = parts(packed, n, low.len());
+            Box::new(move || {
+                returned.restored = None;
+                returned.restored = Some(bank.multi_idwt(&parts).expect(DONE));
+            })
+        }
+        Op::PlaneAnalysis => {
+            let plane = rust::plane(bank);
+            let [ll, lh, hl, hh] = bands else { unreachable!() };
+            Box::new(move || plane.execute_forward(line, n, n, ll, lh, hl, hh, scratch).expect(DONE))
+        }
+        Op::PlaneSynthesis => {
+            let plane = rust::plane(bank);
+            let [ll_band, lh_band, hl_band, hh_band] = bands else { unreachable!() };
+            let bands = FilterBank2D { ll_band, lh_band, hl_band, hh_band };
+            let added_onto = plane.required_scratch_size(n, n) / 2;
+            Box::new(move || {
+                // it adds onto the plane and the front half of the scratch; its `idwt` clears all of both
+                out.fill(0.0);
+                scratch[..added_onto].fill(0.0);
+                plane.execute_inverse(out, &bands, n, n, scratch).expect(DONE)
+            })
+        }
+    }
+}

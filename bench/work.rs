@@ -1,0 +1,119 @@
+//! What one case reads and writes: the same numbers and the same buffers for both sides, made before anything is counted.
+
+#[derive(Clone, Copy)]
+pub enum Op {
+    Analysis,
+    Synthesis,
+    Convolution,
+    Levels,
+    Restoring,
+    PlaneAnalysis,
+    PlaneSynthesis,
+}
+
+/// The names that measure.py uses.
+pub const OPS: [(&str, Op); 7] = [
+    ("analysis", Op::Analysis),
+    ("synthesis", Op::Synthesis),
+    ("convolution", Op::Convolution),
+    ("levels", Op::Levels),
+    ("restoring", Op::Restoring),
+    ("plane-analysis", Op::PlaneAnalysis),
+    ("plane-synthesis", Op::PlaneSynthesis),
+];
+
+pub const LEVELS: usize = 5;
+
+#[derive(Default)]
+pub struct Work {
+    /// Samples of the line, or of a side of the plane.
+    pub n: usize,
+    pub low: Vec<f64>,
+    pub high: Vec<f64>,
+    /// The line or the plane that is split or convolved.
+    pub line: Vec<f64>,
+    /// The two bands of a line, or the four of a plane.
+    pub bands: Vec<Vec<f64>>,
+    /// Details level by level, then the last approximations.
+    pub packed: Vec<f64>,
+    /// What is joined or convolved; restoring's first buffer.
+    pub out: Vec<f64>,
+    /// Restoring's second buffer.
+    pub second: Vec<f64>,
+    pub scratch: Vec<f64>,
+}
+
+/// Numbers from -1/2 to below 1/2, one after another.
+struct Numbers(u64);
+
+impl Numbers {
+    fn next(&mut self) -> f64 {
+        self.0 = self.0.wrapping_mul(6364136223846793005).wrapping_add(1442695040888963407);
+        // a number from 1 to below 2 has these upper bits
+        f64::from_bits(0x3FF << 52 | self.0 >> 12) - 1.5
+    }
+
+    fn list(&mut self, count: usize) -> Vec<f64> {
+        (0..count).map(|_| self.next()).collect()
+    }
+}
+
+/// A buffer to be written. It holds something already, so that a place left out or added onto shows.
+fn held(count: usize) -> Vec<f64> {
+    vec![0.25; count]
+}
+
+/// How long a band of n samples by f taps is.
+pub fn half(n: usize, f: usize) -> usize {
+    (n + f - 1) / 2
+}
+
+/// How many samples a case has.
+pub fn samples(op: Op, n: usize) -> usize {
+    match op {
+        Op::PlaneAnalysis | Op::PlaneSynthesis => n * n,
+        _ => n,
+    }
+}
+
+fn padded(n: usize, f: usize) -> usize {
+    2 * half(n, f) + f - 2
+}
+
+fn plane_scratch(n: usize, f: usize) -> usize {
+    4 * half(n, f) * n + padded(n, f)
+}
+
+fn packed(n: usize, f: usize) -> usize {
+    let lengths = std::iter::successors(Some(half(n, f)), |m| Some(half(*m, f))).take(LEVELS);
+    let (whole, last) = lengths.fold((0, 0), |(whole, _), m| (whole + m, m));
+    whole + last
+}
+
+impl Work {
+    pub fn new(op: Op, f: usize, n: usize) -> Work {
+        let mut numbers = Numbers(1);
+        let mut w = Work { n, low: numbers.list(f), high: numbers.list(f), ..Work::default() };
+        let m = half(n, f);
+        let mut list = |count| numbers.list(count);
+        match op {
+            Op::Analysis => (w.line, w.bands, w.scratch) = (list(n), vec![held(m); 2], held(padded(n, f))),
+            Op::Synthesis => (w.bands, w.out) = (vec![list(m), list(m)], held(n)),
+            Op::Convolution => (w.line, w.out, w.scratch) = (list(n), held(n), held(n + f)),
+            Op::Levels => (w.line, w.packed, w.scratch) = (list(n), held(packed(n, f)), held(padded(n, f) + 2 * m)),
+            Op::Restoring => (w.packed, w.out, w.second) = (list(packed(n, f)), held(n), held(n)),
+            Op::PlaneAnalysis => (w.line, w.bands, w.scratch) = (list(n * n), vec![held(m * m); 4], held(plane_scratch(n, f))),
+            Op::PlaneSynthesis => (w.bands, w.out, w.scratch) = ((0..4).map(|_| list(m * m)).collect(), held(n * n), held(plane_scratch(n, f))),
+        }
+        w
+    }
+
+    /// All that the case's caller is given.
+    pub fn given(&self, op: Op) -> Vec<f64> {
+        match op {
+            Op::Analysis | Op::PlaneAnalysis => self.bands.concat(),
+            Op::Levels => self.packed.clone(),
+            _ => self.out.clone(),
+        }
+    }
+}

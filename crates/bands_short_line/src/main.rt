@@ -1,0 +1,3 @@
+fn main() {
+    bands_run::run();
+}
