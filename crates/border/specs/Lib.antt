@@ -1,6 +1,7 @@
--- Borders. Definitions: Rule, what stands at a place; Reach, what may be asked for. Laws: Rules, Pads, Inside.
+-- Borders. Definitions: Rule, what stands at a place; Reach, what may be asked for. Laws: Rules, Pads, Inside, Copies.
 pub mod Rule
 pub mod Reach
 pub mod Rules
 pub mod Pads
 pub mod Inside
+pub mod Copies

@@ -3,6 +3,7 @@ ghost use Rattle.line_calls.specs.Lines.{AnalysisTold, SynthesisTold, Co
 use crate::taps::taps_of;
 use analysis::analysis_answer;
 use analysis::work::line_bands;
+use border::pad::copy_line;
 use border::pad::copy_to;
 use synthesis::synthesis_answer;
 use synthesis::work::join;
@@ -34,8 +35,8 @@ pub fn analyse(
     }
     let mut l = [0.0f64; 64];
     let mut h = [0.0f64; 64];
-    copy_to(low, &mut l, 0);
-    copy_to(high, &mut h, 0);
+    copy_line(low, &mut l, 0);
+    copy_line(high, &mut h, 0);
     line_bands(&l, &h, f, border_of(border), line, approx, detail, scratch);
     0
 }

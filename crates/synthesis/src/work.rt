@@ -1,11 +1,12 @@
 // Both bands joined into an output, pair after pair.
 ghost use mathlib.Core.Path.{_≡_};
 ghost use Prim.Native.Nat.{_+_, _-_, _≤_};
-ghost use lib.ListN.{length};
+ghost use lib.ListN.{length, take};
 ghost use lib.Ieee.{binary64};
 ghost use Rattle.numbers.specs.Words.{cleared, tab};
 ghost use Rattle.synthesis.specs.Lines.{synthesised};
 ghost use Rattle.synthesis.specs.Works.{spreadAt, Joinable, PairsOf, InnerPairs, joinedPairs};
+use border::pad::copy_line;
 use numbers::least;
 use numbers::less;
 use numbers::most;
@@ -119,6 +120,15 @@ pub fn clear(line: &mut [f64])
     }
 }
 
+// The first f of 64 taps go to the front of as many places, by whole eights: that is shorter than a copy of all where f is small.
+fn copy_taps(taps: &[f64], f: usize, own: &mut [f64])
+    requires { ⌜ (f ≤ 64) × (length (now taps) ≡ 64) × (length (now own) ≡ 64) ⌝ }
+    ensures { λ _. ⌜ take f (now (own .exit)) ≡ take f (now (taps .entry)) ⌝ }
+{
+    let end = (f + 7) / 8 * 8;
+    copy_line(&taps[..end], own, 0);
+}
+
 // The pairs of `join` into an output that is cleared first, over taps of its own: a `join` with two callers is not inlined, and then tests each pair for taps that lie in the output.
 pub fn join_cleared(
     low: &[f64; 64],
@@ -131,8 +141,10 @@ pub fn join_cleared(
     requires { ⌜ Joinable f (length (now approx)) (length (now detail)) (length (now out)) ⌝ }
     ensures { λ _. ⌜ now (out .exit) ≡ synthesised binary64 f (now (low .entry)) (now (high .entry)) (now (approx .entry)) (now (detail .entry)) (cleared (length (now (out .entry)))) ⌝ }
 {
-    let l = *low;
-    let h = *high;
+    let mut l = [0.0f64; 64];
+    let mut h = [0.0f64; 64];
+    copy_taps(low, f, &mut l);
+    copy_taps(high, f, &mut h);
     clear(out);
     let start = (f - 2) / 2;
     let end = most(start, out.len() / 2);

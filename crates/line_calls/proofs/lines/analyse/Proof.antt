@@ -34,17 +34,17 @@ returns-2 c = let t = c .before in let b = t .before .before .before .before in 
 lists : (e : tie.Else2) → let a = e .before .before .before .before .before .before .before .before .before .before .before .before .before .args in Paired (length (now (a .low))) (length (now (a .high)))
 lists e = let t = e .before in let a = t .before .before .before .before .before .before .before .before .before .before .before .before .args in analysis-lists (a .border) (now (a .low)) (now (a .high)) (now (a .line)) (now (a .approx)) (now (a .detail)) (now (a .scratch)) (t .before .before .before .taps-of .ensures) (t .before .before .analysis-answer .ensures) (t .analysis .ensures) (e .if2 .left)
 
-slice-aggregate-copy-to : tie.Need-slice-aggregate-copy-to
-slice-aggregate-copy-to c = search needs
+slice-aggregate-copy-line : tie.Need-slice-aggregate-copy-line
+slice-aggregate-copy-line c = search needs
 
-copy-to-requires : tie.Need-copy-to-requires
-copy-to-requires c κs = omega (arith, lists (c .before) .good .most)
+copy-line-requires : tie.Need-copy-line-requires
+copy-line-requires c κs = omega (arith, lists (c .before) .good .most)
 
-slice-aggregate-copy-to-2 : tie.Need-slice-aggregate-copy-to-2
-slice-aggregate-copy-to-2 c = search needs
+slice-aggregate-copy-line-2 : tie.Need-slice-aggregate-copy-line-2
+slice-aggregate-copy-line-2 c = search needs
 
-copy-to-requires-2 : tie.Need-copy-to-requires-2
-copy-to-requires-2 c κs = let p = lists (c .before .before .before .before) in omega (arith, p .both, p .good .most)
+copy-line-requires-2 : tie.Need-copy-line-requires-2
+copy-line-requires-2 c κs = let p = lists (c .before .before .before .before) in omega (arith, p .both, p .good .most)
 
 border-of-requires : tie.Need-border-of-requires
 border-of-requires c κs = search needs
@@ -67,7 +67,7 @@ returns-3 c = let w = c .before .before .before .before .before .before in
     let t = e .before in
     let b = t .before .before .before .before in
     analysis-done _ _ _ _ _ _ _ (t .before .before .before .taps-of .ensures) (t .before .before .analysis-answer .ensures) (t .analysis .ensures) _ (sym (b .before .no-border .ensures) ∙ b .if1 .left) (e .if2 .left) (w .before .before .before .before .border-of .ensures)
-    (w .before .before .before .before .before .before .before .before .before .before .before .copy-to .ensures) (w .before .before .before .before .before .before .before .before .copy-to2 .ensures) (w .line-bands .ensures .0) (w .line-bands .ensures .1) (w .line-bands .ensures .2)
+    (w .before .before .before .before .before .before .before .before .before .before .before .copy-line .ensures) (w .before .before .before .before .before .before .before .before .copy-line2 .ensures) (w .line-bands .ensures .0) (w .line-bands .ensures .1) (w .line-bands .ensures .2)
 
 pub analyse-spec : {M : Type 1} → statement M
 analyse-spec =
@@ -80,10 +80,10 @@ analyse-spec =
     analysis-answer-requires
     analysis-requires
     returns-2
-    slice-aggregate-copy-to
-    copy-to-requires
-    slice-aggregate-copy-to-2
-    copy-to-requires-2
+    slice-aggregate-copy-line
+    copy-line-requires
+    slice-aggregate-copy-line-2
+    copy-line-requires-2
     border-of-requires
     line-bands-requires
     same-length
