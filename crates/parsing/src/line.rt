@@ -18,10 +18,10 @@ pub struct Line {
 fn separates(c: u8) -> bool
     ensures { λ r. ⌜ r ≡ separates c ⌝ }
 {
-    if c == 32 {
+    if c == b' ' {
         return true;
     }
-    c == 10
+    c == b'\n'
 }
 
 // A number that has ended goes to its place, if the buffer reaches there; answers how many there are then.

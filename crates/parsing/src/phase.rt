@@ -15,7 +15,7 @@ pub enum Phase {
 fn least(negative: bool) -> u8
     ensures { λ r. ⌜ r ≡ least negative ⌝ }
 {
-    if negative { 49 } else { 48 }
+    if negative { b'1' } else { b'0' }
 }
 
 fn first(negative: bool, c: u8) -> Phase
@@ -24,7 +24,7 @@ fn first(negative: bool, c: u8) -> Phase
     if c < least(negative) {
         return Phase::Broken;
     }
-    if 57 < c {
+    if b'9' < c {
         return Phase::Broken;
     }
     Phase::Number {
@@ -36,7 +36,7 @@ fn first(negative: bool, c: u8) -> Phase
 fn start(c: u8) -> Phase
     ensures { λ r. ⌜ r ≡ starting c ⌝ }
 {
-    if c == 45 {
+    if c == b'-' {
         return Phase::Minus;
     }
     first(false, c)
@@ -45,7 +45,7 @@ fn start(c: u8) -> Phase
 fn fresh(c: u8) -> Phase
     ensures { λ r. ⌜ r ≡ freshly c ⌝ }
 {
-    if c == 10 {
+    if c == b'\n' {
         return Phase::Closed;
     }
     start(c)
@@ -55,10 +55,10 @@ fn fresh(c: u8) -> Phase
 fn grow(negative: bool, size: u32, c: u8) -> Phase
     ensures { λ r. ⌜ r ≡ grown negative size c ⌝ }
 {
-    if c < 48 {
+    if c < b'0' {
         return Phase::Broken;
     }
-    if 57 < c {
+    if b'9' < c {
         return Phase::Broken;
     }
     if size == 0 {
@@ -80,10 +80,10 @@ fn grow(negative: bool, size: u32, c: u8) -> Phase
 fn further(negative: bool, size: u32, c: u8) -> Phase
     ensures { λ r. ⌜ r ≡ behind negative size c ⌝ }
 {
-    if c == 32 {
+    if c == b' ' {
         return Phase::Next;
     }
-    if c == 10 {
+    if c == b'\n' {
         return Phase::Closed;
     }
     grow(negative, size, c)
