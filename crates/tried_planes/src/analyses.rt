@@ -1,29 +1,13 @@
 // Analyses of planes: every border, even and odd sides, rows and columns that differ in length, and buffers that held something else.
 ghost use Prim.Native.Nat.{_≤_};
 use crate::lent::bands;
+use crate::lent::sixteen;
 use bank::making::bank;
 use border::Border;
 
 // No border pads P11's plane.
 fn p11(name: &[u8], border: Border) {
-    let plane = [
-        1.0,
-        2.0,
-        3.0,
-        4.0,
-        5.0,
-        6.0,
-        7.0,
-        8.0,
-        9.0,
-        10.0,
-        11.0,
-        12.0,
-        13.0,
-        14.0,
-        15.0,
-        16.0,
-    ];
+    let plane = sixteen();
     let made = bank(&[1.0, 1.0], &[1.0, -1.0], border);
     bands(name, made.bank, &plane, 4, 4, 7.0, 4, 4, 4, 4, 38);
 }

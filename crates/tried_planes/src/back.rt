@@ -1,6 +1,7 @@
 // Planes there and back: by banks that restore a plane, and by one that rounds at every step.
 use crate::calls::join;
 use crate::calls::split;
+use crate::lent::sixteen;
 use bank::Bank;
 use bank::making::bank;
 use bank::making::mirrored;
@@ -37,24 +38,7 @@ fn back(
 
 // Every number comes back 4 times as large.
 fn p11(name: &[u8], held: f64) {
-    let plane = [
-        1.0,
-        2.0,
-        3.0,
-        4.0,
-        5.0,
-        6.0,
-        7.0,
-        8.0,
-        9.0,
-        10.0,
-        11.0,
-        12.0,
-        13.0,
-        14.0,
-        15.0,
-        16.0,
-    ];
+    let plane = sixteen();
     let made = bank(&[1.0, 1.0], &[1.0, -1.0], Border::Clamp);
     back(
         name,

@@ -4,11 +4,14 @@ mod back;
 mod calls;
 mod comparings;
 mod lent;
+mod limits;
 mod refused_analyses;
 mod refused_syntheses;
 mod sizes;
 mod syntheses;
 mod told;
+
+use limits::Way;
 
 fn lengths() {
     sizes::examples();
@@ -41,13 +44,13 @@ fn refused() {
     refused_analyses::sides();
     refused_analyses::lengths();
     refused_analyses::wrong_bands();
-    refused_analyses::limits();
+    limits::ends(Way::Analysis);
     refused_syntheses::taps();
     refused_syntheses::sides();
     refused_syntheses::lengths();
     refused_syntheses::wrong_bands();
     refused_syntheses::odd_sides();
-    refused_syntheses::limits();
+    limits::ends(Way::Synthesis);
 }
 
 fn compared() {

@@ -1,10 +1,7 @@
 // Refused analyses of planes: where several tests fail the first answers, and the sevens stay.
 ghost use Prim.Native.Nat.{_≤_};
 use crate::lent::bands;
-use crate::told::of_planes;
-use plane_analysis::plane_analysis_answer;
 use trying::calls::counted;
-use trying::print::heading;
 
 // No buffer has its length.
 fn wrong(name: &[u8], f: usize, width: usize, height: usize) {
@@ -88,61 +85,4 @@ pub fn wrong_bands() {
     two(b"LH a place too long, HL and HH wrong", 4, 5, 6, 0);
     two(b"HL two places too long, HH wrong", 4, 4, 6, 0);
     two(b"no HH", 4, 4, 4, 0);
-}
-
-fn told(
-    name: &[u8],
-    width: usize,
-    height: usize,
-    f: usize,
-    plane: usize,
-    scratch: usize,
-    l: usize,
-) {
-    heading(name);
-    of_planes(plane_analysis_answer(width, height, f, plane, scratch, l, l, l, l));
-}
-
-fn widest(name: &[u8], plane: usize, scratch: usize, l: usize) {
-    told(name, 1048576, 16, 2, plane, scratch, l);
-}
-
-// The answer to lengths that no buffer here has.
-pub fn limits() {
-    widest(
-        b"1048576 by 16, plane and scratch short",
-        16777215,
-        34603007,
-        4194304,
-    );
-    widest(b"1048576 by 16, scratch short", 16777216, 34603007, 4194304);
-    widest(b"1048576 by 16, bands short", 16777216, 34603008, 4194303);
-    widest(b"1048576 by 16", 16777216, 34603008, 4194304);
-    told(
-        b"16 by 1048576",
-        16,
-        1048576,
-        2,
-        16777216,
-        34603008,
-        4194304,
-    );
-    told(
-        b"4096 by 4096, 64 taps",
-        4096,
-        4096,
-        64,
-        16777216,
-        34066556,
-        4322241,
-    );
-    told(
-        b"18446744073709551615 by 18446744073709551615",
-        18446744073709551615,
-        18446744073709551615,
-        2,
-        1,
-        1,
-        1,
-    );
 }

@@ -1,11 +1,8 @@
 // Refused syntheses of planes: where several tests fail the first answers, and the sevens stay.
 ghost use Prim.Native.Nat.{_≤_};
 use crate::lent::plane;
-use crate::told::of_planes;
 use bank::Bank;
-use plane_synthesis::plane_synthesis_answer;
 use trying::calls::counted;
-use trying::print::heading;
 
 // One band lent as all four.
 fn of_band(name: &[u8], bank: Bank, band: &[f64], width: usize, height: usize, p: usize, s: usize)
@@ -122,62 +119,5 @@ pub fn odd_sides() {
         1,
         3,
         20,
-    );
-}
-
-fn told(
-    name: &[u8],
-    width: usize,
-    height: usize,
-    f: usize,
-    plane: usize,
-    scratch: usize,
-    l: usize,
-) {
-    heading(name);
-    of_planes(plane_synthesis_answer(width, height, f, plane, scratch, l, l, l, l));
-}
-
-fn widest(name: &[u8], plane: usize, scratch: usize, l: usize) {
-    told(name, 1048576, 16, 2, plane, scratch, l);
-}
-
-// The answer to lengths that no buffer here has.
-pub fn limits() {
-    widest(
-        b"1048576 by 16, plane and scratch short",
-        16777215,
-        34603007,
-        4194304,
-    );
-    widest(b"1048576 by 16, scratch short", 16777216, 34603007, 4194304);
-    widest(b"1048576 by 16, bands short", 16777216, 34603008, 4194303);
-    widest(b"1048576 by 16", 16777216, 34603008, 4194304);
-    told(
-        b"16 by 1048576",
-        16,
-        1048576,
-        2,
-        16777216,
-        34603008,
-        4194304,
-    );
-    told(
-        b"4096 by 4096, 64 taps",
-        4096,
-        4096,
-        64,
-        16777216,
-        34066556,
-        4322241,
-    );
-    told(
-        b"18446744073709551615 by 18446744073709551615",
-        18446744073709551615,
-        18446744073709551615,
-        2,
-        1,
-        1,
-        1,
     );
 }
