@@ -8,7 +8,7 @@ use borrow.Author.Tests.{ne-eqb}
 use borrow.Rule.Slice.PartMut.{putMid}
 use lib.Dec.{eqb}
 use lib.ListN.{length, take, drop, length-append, length-drop, take-append-drop}
-use lib.Seq.{length-take-le, take-all, take-length, take-at, take-append-le, drop-append-le, take-append-add, drop-append-add, drop-at}
+use lib.Seq.{length-take-le, take-all, take-at, take-append-le, drop-append-le, take-append-add, drop-append-add, drop-at}
 use lib.Ieee.{Float, Format, binary64}
 use Rattle.numbers.specs.Words.{tab}
 use Rattle.numbers.specs.Tests.{cond-false}
@@ -33,7 +33,7 @@ scratch-start g low F b s scratch = refl
 
 pub line-start : (g : Format) (low : List Float) (F : ℕ) (b : Border) (s packed : List Float) → lineHeld s packed 0 0 (length s) ≡ lineOf g low F b s 0
 unfolding lineOf
-line-start g low F b s packed = take-length s
+line-start g low F b s packed = refl
 
 pub line-more : (g : Format) (low : List Float) (F : ℕ) (b : Border) (s : List Float) (k : ℕ) → lineOf g low F b s (k + 1) ≡ band g low F b (lineOf g low F b s k)
 unfolding lineOf
@@ -104,15 +104,16 @@ turn n f levels p s k start line m w h es el em =
     let fell = fallen n f k (w .packs .sound .taps) (long .0) in
     let q : m ≡ lineAfter n f (k + 1) = em ∙ ap (λ (j : ℕ). pairs j f) el ∙ sym (line-next n f k) in
     let less : line ≤ n = omega (arith, el, fell .fewer) in
+    let enough : f ≤ line = omega (arith, el, long .1) in
+    let limit = w .packs .sound .limit in
     let here = room n f k levels (w .packs .sound .taps .two) (omega (arith, h)) in
     let there = room n f (suc k) levels (w .packs .sound .taps .two) h in
     let r : m ≡ lineAfter n f (suc k) = em ∙ ap (λ (j : ℕ). pairs j f) el in
     record {
       held = record {
-        ready = record { taps = w .packs .sound .taps; limit = omega (arith, less, w .packs .sound .limit); enough = omega (arith, el, long .1) };
-        shorter = less;
+        first = record { ready = record { taps = w .packs .sound .taps; limit = limit; enough = omega (arith, less, enough) }; room = omega (arith, w .room) };
+        next = record { ready = record { taps = w .packs .sound .taps; limit = omega (arith, less, limit); enough = enough }; room = omega (arith, padded-shorter n line f less, w .room) };
         inside = omega (arith, es, el, here, w .packs .filled);
-        room = omega (arith, padded-shorter n line f less, w .room);
       };
       next = q;
       inside = omega (arith, es, r, there, w .packs .filled);
@@ -152,6 +153,6 @@ all-packed g low high F b s levels k start n {packed} e h q p r =
     ∙ ap (λ (l : List Float). l ++ drop start packed) p
     ∙ ap (λ (l : List Float). detailsOf g low high F b s k ++ l)
     (sym (take-all n (drop start packed) (omega (arith, length-drop start packed, q)))
-    ∙ sym (cond-false (eqb k 0) (take n s) _ (ne-eqb k 0 (λ z. absurd (omega (arith, z, e, h)))))
+    ∙ sym (cond-false (eqb k 0) s _ (ne-eqb k 0 (λ z. absurd (omega (arith, z, e, h)))))
     ∙ r)
     ∙ ap (packedLine g low high F b s) e

@@ -5,20 +5,19 @@ use Prim.Native.Nat.{ℕ, _+_, _≤_}
 use lib.Dec.{eqb}
 use lib.ListN.{take, drop}
 use lib.Ieee.{Float}
-use Rattle.bank.specs.Lengths.{Analysable, paddedLength}
+use Rattle.analysis.specs.Works.{Padding}
 use Rattle.packed.specs.Lengths.{levelsScratch}
 use Rattle.packed.specs.Works.{Filled}
 
--- the n samples that level k + 1 splits: the line's for the first level, else those at `start` in the packed buffer
+-- what level k + 1 splits: the line for the first level, else the n samples at `start` in the packed buffer
 abbrev pub lineHeld : List Float → List Float → ℕ → ℕ → ℕ → List Float
-lineHeld line packed k start n = cond (eqb k 0) (take n line) (take n (drop start packed))
+lineHeld line packed k start n = cond (eqb k 0) line (take n (drop start packed))
 
--- a line that holds n samples, a packed buffer that holds n from `start` on, and a scratch for them padded
+-- a packed buffer that holds n samples from `start` on, and a scratch for them or the line padded
 pub record Held (f line packed start n scratch : ℕ) : Type 0 where
-  pub ready : Analysable n f
-  pub shorter : n ≤ line
+  pub first : Padding f line scratch
+  pub next : Padding f n scratch
   pub inside : start + n ≤ packed
-  pub room : paddedLength n f ≤ scratch
 
 -- n samples, f taps, one level or more, a packed buffer of p and a scratch of s that pass every test
 pub record Splitting (n f levels p s : ℕ) : Type 0 where

@@ -10,7 +10,7 @@ use analysis::work::bands_beside;
 use analysis::work::pad_line;
 use border::Border;
 
-// The line of level k + 1, padded: n samples of the line itself for the first, else of the approximations in the packed buffer.
+// The line of level k + 1, padded: the line itself for the first, else the n approximations in the packed buffer.
 fn pad_level(
     f: usize,
     border: Border,
@@ -25,7 +25,7 @@ fn pad_level(
     ensures { λ _. ⌜ now (scratch .exit) ≡ paddedInto f border (lineHeld (now (line .entry)) (now (packed .entry)) k start n) (now (scratch .entry)) ⌝ }
 {
     if k == 0 {
-        pad_line(f, border, &line[..n], scratch);
+        pad_line(f, border, line, scratch);
     } else {
         let end = start + n;
         pad_line(f, border, &packed[start..end], scratch);

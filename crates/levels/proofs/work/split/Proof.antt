@@ -58,10 +58,14 @@ loop-holds c =
 pad-level-requires : tie.Need-pad-level-requires Inv-loop μ-loop
 pad-level-requires c κs = let t = lengths (c .before .before) .held in
     let i = c .before .before .before .loop .inv in
-    record { ready = t .ready; shorter = t .shorter; inside = omega (arith, t .inside, i .3); room = omega (arith, t .room, i .4) }
+    record {
+      first = record { ready = t .first .ready; room = omega (arith, t .first .room, i .4) };
+      next = record { ready = t .next .ready; room = omega (arith, t .next .room, i .4) };
+      inside = omega (arith, t .inside, i .3);
+    }
 
 add-n : tie.Need-add-n Inv-loop μ-loop
-add-n c = omega (arith, lengths (c .before .before .before .before .before) .held .ready .limit, lengths (c .before .before .before .before .before) .held .ready .taps .most)
+add-n c = let r = lengths (c .before .before .before .before .before) .held .next .ready in omega (arith, r .limit, r .taps .most)
 
 sub-n : tie.Need-sub-n Inv-loop μ-loop
 sub-n c = search needs
@@ -92,9 +96,9 @@ bands-beside-requires c κs =
     let l = w .before in
     let m = pairs (l .loop .n) (l .before .before .before .before .args .f) in
     record {
-      most = t .held .ready .taps .most;
+      most = t .held .next .ready .taps .most;
       filled = mid-len (l .loop .start) (l .loop .start + (m + m)) (l .loop .packed) (omega (arith, t .inside, l .loop .inv .3)) ∙ omega arith;
-      within = omega (arith, t .held .room, t .held .ready .taps .two, l .loop .inv .4, p .pad-level .kept .1 .1 .1 .1 .1 .1 .1 .0);
+      within = omega (arith, t .held .next .room, t .held .next .ready .taps .two, l .loop .inv .4, p .pad-level .kept .1 .1 .1 .1 .1 .1 .1 .0);
     }
 
 add-start : tie.Need-add-start Inv-loop μ-loop
