@@ -2,6 +2,7 @@
 use borrow.Author.Needs.{needs}
 use denote.Enum.Declared.{tagOf, declared}
 use lib.Dec.{lit<}
+use native.Mathlib.Omega.{arith}
 use mathlib.Core.Path.{_∙_, refl, sym}
 use Rattle.numbers.specs.Tests.{key-above, other, refused, kept}
 use Rattle.planes.proofs.Planes.{enum}
@@ -31,7 +32,10 @@ returns c =
     }
 
 split-plane-requires : tie.Need-split-plane-requires
-split-plane-requires c κs = let e = c .before .before .before .before .before .before .before .before .before in analysing _ _ _ _ _ _ _ _ _ (sym (e .before .before .plane-analysis-answer .ensures) ∙ e .enum-told .given .1)
+split-plane-requires c κs =
+    let e = c .before .before .before .before .before .before .before .before .before in
+    let t = analysing _ _ _ _ _ _ _ _ _ (sym (e .before .before .plane-analysis-answer .ensures) ∙ e .enum-told .given .1) in
+    record { held = t .held; wide = t .wide; high = t .high; bands = omega (arith, t .bands) }
 
 same-length : tie.Need-same-length
 same-length c = search needs

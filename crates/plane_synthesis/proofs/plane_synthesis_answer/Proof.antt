@@ -2,6 +2,7 @@
 use borrow.Author.Needs.{needs}
 use denote.Enum.Declared.{tagOf, declared}
 use lib.Dec.{lit<}
+use native.Mathlib.Omega.{arith}
 use mathlib.Core.Path.{_≡_, _∙_, refl, sym, ap}
 use Prim.Native.Nat.{ℕ}
 use Rattle.numbers.specs.Tests.{key-above, other}
@@ -59,7 +60,8 @@ sides-answer-requires : tie.Need-sides-answer-requires
 sides-answer-requires c κs =
     let w = c .before .before .before .before in
     let a = w .before .before .before .args in
-    held-done (a .width) (a .height) (a .f) (a .plane) (a .scratch) (held w) .sides
+    let s = held-done (a .width) (a .height) (a .f) (a .plane) (a .scratch) (held w) .sides in
+    omega (arith, s)
 
 returns-3 : tie.Need-returns-3
 unfolding answerOf

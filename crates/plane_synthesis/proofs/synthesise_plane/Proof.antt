@@ -2,6 +2,7 @@
 use borrow.Author.Needs.{needs}
 use denote.Enum.Declared.{tagOf, declared}
 use lib.Dec.{lit<}
+use native.Mathlib.Omega.{arith}
 use mathlib.Core.Path.{_∙_, refl, sym}
 use Rattle.numbers.specs.Tests.{key-above, other, refused, kept}
 use Rattle.planes.proofs.Planes.{enum}
@@ -24,7 +25,10 @@ returns c =
     record { answer = c .before .plane-synthesis-answer .ensures; joined = kept (numberOf r) z _ _; scratched = untouched (numberOf r) _ _ }
 
 join-plane-requires : tie.Need-join-plane-requires
-join-plane-requires c κs = let e = c .before .before .before .before .before .before in synthesising _ _ _ _ _ _ _ _ _ (sym (e .before .before .plane-synthesis-answer .ensures) ∙ e .enum-told .given .1)
+join-plane-requires c κs =
+    let e = c .before .before .before .before .before .before in
+    let t = synthesising _ _ _ _ _ _ _ _ _ (sym (e .before .before .plane-synthesis-answer .ensures) ∙ e .enum-told .given .1) in
+    record { held = t .held; bands = omega (arith, t .bands); even = t .even }
 
 same-length : tie.Need-same-length
 same-length c = search needs

@@ -33,7 +33,7 @@ add-cross : tie.Need-add-cross
 add-cross c = omega (arith, few-pairs (c .before .before .before .before .before .before .before .before .before .before .before .pre .held .sides))
 
 cross-requires : tie.Need-cross-requires
-cross-requires c κs = crossable (c .before .before .before .before .before .before .before .before .before .before .before .pre) (c .before .before .before .rows .ensures .long)
+cross-requires c κs = let t = crossable (c .before .before .before .before .before .before .before .before .before .before .before .pre) (c .before .before .before .rows .ensures .long) in omega (arith, t)
 
 columns-requires : tie.Need-columns-requires
 columns-requires c κs =
