@@ -3,7 +3,6 @@ use Prim.Native.Nat.{ℕ, _*_, _≤_}
 use native.Mathlib.Nat.{mul-le-mul}
 use native.Mathlib.Omega.{arith}
 use Rattle.bank.specs.Lengths.{pairs}
-use Rattle.planes.specs.Lengths.{bandLength}
 use Rattle.planes.specs.Works.{Sided}
 
 -- a side has no more pairs than half a line and 32
@@ -12,6 +11,3 @@ few-pairs s = (omega (arith, s .across, s .taps .most), omega (arith, s .down, s
 
 pub row-area : {w h f : ℕ} → Sided w h f → pairs w f * h ≤ 524320 * 1048576
 row-area s = mul-le-mul (few-pairs s .0) (s .down)
-
-pub band-area : {w h f : ℕ} → Sided w h f → bandLength w h f ≤ 524320 * 524320
-band-area s = mul-le-mul (few-pairs s .0) (few-pairs s .1)

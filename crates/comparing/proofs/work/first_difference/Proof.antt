@@ -57,7 +57,7 @@ loop-holds c =
     (search needs, omega (arith, i .1), i .2, subst (λ (m : ℕ). Agree (now (a .first)) (now (a .second)) m) none (i .3))
 
 sub-at : tie.Need-sub-at Inv-loop μ-loop Inv-scan μ-scan
-sub-at c = omega (arith, c .before .loop .inv .1, c .before .before .before .before .before .before .pre .0)
+sub-at c = omega (arith, inside c, c .before .loop .inv .1, c .before .before .before .before .before .before .pre .0)
 
 mul-differ : tie.Need-mul-differ Inv-loop μ-loop Inv-scan μ-scan
 mul-differ c = omega (arith, inside c)

@@ -1,7 +1,8 @@
 -- `planes::sizes::band_need` meets its contract: it is the definition's product, and the sides are short enough for it.
 use borrow.Author.Needs.{needs}
+use native.Mathlib.Nat.{mul-le-mul}
 use native.Mathlib.Omega.{arith}
-use Rattle.planes.specs.Areas.{band-area}
+use Rattle.planes.specs.Areas.{few-pairs}
 use Rattle.planes.proofs.sizes.band_need.Statement.{statement}
 use Rattle.planes.proofs.sizes.band_need.Tie as tie
 
@@ -18,7 +19,7 @@ sub-result-2 : tie.Need-sub-result-2
 sub-result-2 c = search needs
 
 mul-result : tie.Need-mul-result
-mul-result c = omega (arith, band-area (c .pre))
+mul-result c = let p = few-pairs (c .pre) in omega (arith, mul-le-mul (p .0) (p .0), mul-le-mul (p .0) (p .1))
 
 returns : tie.Need-returns
 returns c = search needs
