@@ -1,9 +1,9 @@
-"""expected_bands CRATE..: fails where crates/CRATE/stdout is not what document 01 has `bands` print for crates/CRATE/stdin; with no name, all its cases.
+"""expected_bands: fails where crates/bands or a case of crates/bands_cases has another stdout than document 01 has `bands` print, or where the cases' args, data and stdout don't name the same ones.
 
     python3 tools/expected_bands.py
 
 It shares nothing with the library: the grammar is one regular expression, the sums are whole numbers, and only what is printed is a float."""
-import glob, os, re, struct, sys
+import os, re, struct, sys
 
 NUMBER = rb'(?:0|-?[1-9][0-9]{0,6})'
 LINE = rb'((?:' + NUMBER + rb'(?: ' + NUMBER + rb')*)?)\n'
@@ -39,8 +39,24 @@ def answer(text):
     if len(line) < len(low): return ['refused 1']
     return shown('approx', band(border, low, line)) + shown('detail', band(border, high, line))
 
-root = os.path.join(os.path.dirname(os.path.abspath(__file__)), '..', 'crates')
-names = sys.argv[1:] or sorted(os.path.basename(os.path.dirname(p)) for p in glob.glob(os.path.join(root, 'bands*', 'stdin')))
-wrong = [name for name in names if open(os.path.join(root, name, 'stdout'), 'rb').read() != ('\n'.join(answer(open(os.path.join(root, name, 'stdin'), 'rb').read())) + '\n').encode()]
-print('%d cases of bands, %d differ%s' % (len(names), len(wrong), ''.join(' ' + name for name in wrong)))
-sys.exit(1 if wrong else 0)
+CRATES = os.path.join(os.path.dirname(os.path.abspath(__file__)), '..', 'crates')
+
+def read(*path):
+    with open(os.path.join(CRATES, *path), 'rb') as file: return file.read()
+
+def due(*path): return '\n'.join(answer(read(*path))) + '\n'
+
+names = read('bands_cases', 'args').decode().splitlines()
+stdout = read('bands_cases', 'stdout').decode('latin-1')
+wanted = {name: due('bands_cases', 'data', name) for name in os.listdir(os.path.join(CRATES, 'bands_cases', 'data'))}
+# what stands before the first name, and then each name and what stands below it
+parts = re.split('^(%s)\n' % '|'.join(map(re.escape, names)), stdout, flags=re.M)
+written = dict(zip(parts[1::2], parts[2::2]))
+
+cases = sorted({*names, *wanted})
+wrong = [name for name in cases if name not in names or name not in wanted or written.get(name) != wanted[name]]
+if read('bands', 'stdout').decode('latin-1') != due('bands', 'stdin'): wrong.append('bands')
+order = parts[:1] + parts[1::2] == [''] + names
+if not order: print('stdout of bands_cases has other names than args, or in another order')
+print('%d cases of bands, %d differ%s' % (len(cases) + 1, len(wrong), ''.join(' ' + name for name in wrong)))
+sys.exit(1 if wrong or not order else 0)

@@ -1,3 +1,3 @@
 fn main() {
-    bands_run::run();
+    bands_run::run_on(libc::STDIN_FILENO);
 }

@@ -16,10 +16,10 @@ fn respond(text: &[u8], out: &mut [u8])
     io::write_all(1, &out[..n]);
 }
 
-pub fn run() {
+pub fn run_on(fd: i32) {
     // One byte more than may be read tells that the text is longer.
     let mut text = [0u8; 4097];
     let mut out = [0u8; 36864];
-    let n = io::read_full(0, &mut text);
+    let n = io::read_full(fd, &mut text);
     respond(&text[..n], &mut out);
 }

@@ -1,3 +1,0 @@
-fn main() {
-    bands_run::run();
-}
