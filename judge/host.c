@@ -1,7 +1,8 @@
-/* host: reads cases from stdin, calls the library on each, writes the results to stdout (protocol.py says which words).
+/* host: reads cases from stdin, calls the library on each, writes the results to stdout (protocol.py says which words, and makes operations.h).
    Every list lies between guard words, so that a write outside it shows. */
 #include "isferghul.h"
 #include "host.h"
+#include "operations.h"
 #include <stdio.h>
 #include <stdlib.h>
 #include <string.h>
@@ -9,8 +10,6 @@
 #define PATTERN UINT64_C(0xCCCCCCCCCCCCCCCC)
 #define LISTS 8
 #define SCALARS 5
-#define OPERATIONS 24
-#define LARGE_PLANE 24
 
 /* Words that grow. */
 struct words {
@@ -23,13 +22,6 @@ struct list {
     const uint64_t *given;
     double *seen;
     size_t count;
-};
-
-/* By operation: how many scalars, how many lists, which of them are lent (a bit each). */
-static const struct { int scalars, lists, lent; } shapes[OPERATIONS + 1] = {
-    {0, 0, 0}, {1, 6, 0x38}, {0, 5, 0x10}, {2, 4, 0x06}, {2, 0, 0}, {2, 0, 0}, {2, 0, 0}, {3, 0, 0}, {0, 2, 0x02},
-    {3, 0, 0}, {3, 0, 0}, {3, 0, 0}, {2, 0, 0}, {4, 0, 0}, {2, 5, 0x18}, {2, 5, 0x18}, {5, 2, 0x02},
-    {3, 0, 0}, {3, 0, 0}, {3, 0, 0}, {3, 0, 0}, {3, 8, 0xF8}, {2, 8, 0xC0}, {2, 2, 0}, {3, 4, 0x08},
 };
 
 void stop(const char *why) {
@@ -95,14 +87,14 @@ static int guards_changed(const struct list *list, int lists) {
 
 static uint64_t call_planes(uint64_t op, const uint64_t *s, const struct list *l, size_t carried[2]) {
     switch (op) {
-    case 17: return isferghul_plane_band_width(s[0], s[1], s[2], carried);
-    case 18: return isferghul_plane_band_height(s[0], s[1], s[2], carried);
-    case 19: return isferghul_plane_band_length(s[0], s[1], s[2], carried);
-    case 20: return isferghul_plane_scratch(s[0], s[1], s[2], carried);
-    case 21: return isferghul_analyse_plane(s[0], l[0].seen, l[0].count, l[1].seen, l[1].count, l[2].seen, l[2].count, s[1], s[2],
+    case PLANE_BAND_WIDTH: return isferghul_plane_band_width(s[0], s[1], s[2], carried);
+    case PLANE_BAND_HEIGHT: return isferghul_plane_band_height(s[0], s[1], s[2], carried);
+    case PLANE_BAND_LENGTH: return isferghul_plane_band_length(s[0], s[1], s[2], carried);
+    case PLANE_SCRATCH: return isferghul_plane_scratch(s[0], s[1], s[2], carried);
+    case ANALYSE_PLANE: return isferghul_analyse_plane(s[0], l[0].seen, l[0].count, l[1].seen, l[1].count, l[2].seen, l[2].count, s[1], s[2],
                                             l[3].seen, l[3].count, l[4].seen, l[4].count, l[5].seen, l[5].count, l[6].seen, l[6].count,
                                             l[7].seen, l[7].count, carried);
-    case 22: return isferghul_synthesise_plane(l[0].seen, l[0].count, l[1].seen, l[1].count, l[2].seen, l[2].count, l[3].seen, l[3].count,
+    case SYNTHESISE_PLANE: return isferghul_synthesise_plane(l[0].seen, l[0].count, l[1].seen, l[1].count, l[2].seen, l[2].count, l[3].seen, l[3].count,
                                                l[4].seen, l[4].count, l[5].seen, l[5].count, s[0], s[1],
                                                l[6].seen, l[6].count, l[7].seen, l[7].count, carried);
     default: return isferghul_compare_bands(l[0].seen, l[0].count, l[1].seen, l[1].count, s[0], s[1], carried);
@@ -111,14 +103,14 @@ static uint64_t call_planes(uint64_t op, const uint64_t *s, const struct list *l
 
 static uint64_t call_levels(uint64_t op, const uint64_t *s, const struct list *l, size_t carried[2]) {
     switch (op) {
-    case 9: return isferghul_packed_length(s[0], s[1], s[2], carried);
-    case 10: return isferghul_levels_scratch(s[0], s[1], s[2], carried);
-    case 11: return isferghul_restoring_length(s[0], s[1], s[2], carried);
-    case 12: return isferghul_most_levels(s[0], s[1], carried);
-    case 13: return isferghul_level_part(s[0], s[1], s[2], s[3], carried);
-    case 14: return isferghul_analyse_levels(s[0], l[0].seen, l[0].count, l[1].seen, l[1].count, l[2].seen, l[2].count, s[1],
+    case PACKED_LENGTH: return isferghul_packed_length(s[0], s[1], s[2], carried);
+    case LEVELS_SCRATCH: return isferghul_levels_scratch(s[0], s[1], s[2], carried);
+    case RESTORING_LENGTH: return isferghul_restoring_length(s[0], s[1], s[2], carried);
+    case MOST_LEVELS: return isferghul_most_levels(s[0], s[1], carried);
+    case LEVEL_PART: return isferghul_level_part(s[0], s[1], s[2], s[3], carried);
+    case ANALYSE_LEVELS: return isferghul_analyse_levels(s[0], l[0].seen, l[0].count, l[1].seen, l[1].count, l[2].seen, l[2].count, s[1],
                                              l[3].seen, l[3].count, l[4].seen, l[4].count, carried);
-    case 15: return isferghul_restore_levels(l[0].seen, l[0].count, l[1].seen, l[1].count, l[2].seen, l[2].count, s[0], s[1],
+    case RESTORE_LEVELS: return isferghul_restore_levels(l[0].seen, l[0].count, l[1].seen, l[1].count, l[2].seen, l[2].count, s[0], s[1],
                                              l[3].seen, l[3].count, l[4].seen, l[4].count, carried);
     default:
         if (l[1].count != 1) stop("a place is read to one number");
@@ -128,18 +120,18 @@ static uint64_t call_levels(uint64_t op, const uint64_t *s, const struct list *l
 
 static uint64_t call(uint64_t op, const uint64_t *s, const struct list *l, size_t carried[2]) {
     switch (op) {
-    case 1: return isferghul_analyse(s[0], l[0].seen, l[0].count, l[1].seen, l[1].count, l[2].seen, l[2].count,
+    case ANALYSE: return isferghul_analyse(s[0], l[0].seen, l[0].count, l[1].seen, l[1].count, l[2].seen, l[2].count,
                                      l[3].seen, l[3].count, l[4].seen, l[4].count, l[5].seen, l[5].count, carried);
-    case 2: return isferghul_synthesise(l[0].seen, l[0].count, l[1].seen, l[1].count, l[2].seen, l[2].count,
+    case SYNTHESISE: return isferghul_synthesise(l[0].seen, l[0].count, l[1].seen, l[1].count, l[2].seen, l[2].count,
                                         l[3].seen, l[3].count, l[4].seen, l[4].count, carried);
-    case 3: return isferghul_convolve(s[0], l[0].seen, l[0].count, l[1].seen, l[1].count, l[2].seen, l[2].count,
+    case CONVOLVE: return isferghul_convolve(s[0], l[0].seen, l[0].count, l[1].seen, l[1].count, l[2].seen, l[2].count,
                                       l[3].seen, l[3].count, (int64_t)s[1], carried);
-    case 4: return isferghul_band_length(s[0], s[1], carried);
-    case 5: return isferghul_line_length(s[0], s[1], carried);
-    case 6: return isferghul_analysis_scratch(s[0], s[1], carried);
-    case 7: return isferghul_convolution_scratch(s[0], s[1], (int64_t)s[2], carried);
-    case 8: return isferghul_mirror(l[0].seen, l[0].count, l[1].seen, l[1].count);
-    default: return op < 17 ? call_levels(op, s, l, carried) : call_planes(op, s, l, carried);
+    case BAND_LENGTH: return isferghul_band_length(s[0], s[1], carried);
+    case LINE_LENGTH: return isferghul_line_length(s[0], s[1], carried);
+    case ANALYSIS_SCRATCH: return isferghul_analysis_scratch(s[0], s[1], carried);
+    case CONVOLUTION_SCRATCH: return isferghul_convolution_scratch(s[0], s[1], (int64_t)s[2], carried);
+    case MIRROR: return isferghul_mirror(l[0].seen, l[0].count, l[1].seen, l[1].count);
+    default: return op < PLANE_BAND_WIDTH ? call_levels(op, s, l, carried) : call_planes(op, s, l, carried);
     }
 }
 

@@ -1,4 +1,5 @@
 //! The Rust's planes. `execute_inverse` adds onto what scratch and target hold; it is lent cleared ones, as `idwt` does.
+use crate::operations::{PLANE_BAND_HEIGHT, PLANE_BAND_LENGTH, PLANE_BAND_WIDTH};
 use crate::{Answer, MOST_TAPS, NO_COUNTERPART, border, caught, length, numbered, parted};
 use oracle::{BorderMode, Dwt2DExecutor, FilterBank2D, OscletError, dwt_length, oracle as rust};
 use std::sync::Arc;
@@ -61,9 +62,9 @@ pub fn synthesise([width, height]: [usize; 2], low: &[f64], high: &[f64], bands:
 /// The questions of sizes: a band's width, its height, its length, the scratch.
 pub fn asked(op: u64, width: usize, height: usize, f: usize) -> Answer {
     match op {
-        17 => length(|| dwt_length(width, f)),
-        18 => length(|| dwt_length(height, f)),
-        19 => length(|| dwt_length(width, f) * dwt_length(height, f)),
+        PLANE_BAND_WIDTH => length(|| dwt_length(width, f)),
+        PLANE_BAND_HEIGHT => length(|| dwt_length(height, f)),
+        PLANE_BAND_LENGTH => length(|| dwt_length(width, f) * dwt_length(height, f)),
         _ if f > MOST_TAPS => NO_COUNTERPART,
         _ => length(|| plane(BorderMode::Clamp, &vec![0.0; f], &vec![0.0; f]).required_scratch_size(width, height)),
     }

@@ -8,6 +8,7 @@ of a plane become another number where target and scratch are not cleared. A lar
 over, and its result is a digest of each band and of the plane that they are joined to."""
 import array
 import collections
+import itertools
 import struct
 import sys
 
@@ -18,6 +19,7 @@ PANICKED, NO_COUNTERPART, NO_NUMBER, NOT_RUN = 1000, 1001, 1002, 1003
 BORDERS = ('Clamp', 'Wrap', 'Reflect', 'Zeros', 'Reflect101')
 
 Shape = collections.namedtuple('Shape', 'name scalars lists lent')
+# Every operation's number and name, once: ANALYSE and so on are made of them below, and `protocol.py c` and `protocol.py rust` print them for the judge's two sides.
 SHAPES = {
     1: Shape('analyse', ('border',), ('low', 'high', 'line', 'approx', 'detail', 'scratch'), (3, 4, 5)),
     2: Shape('synthesise', (), ('low', 'high', 'approx', 'detail', 'out'), (4,)),
@@ -42,12 +44,27 @@ SHAPES = {
     21: Shape('analyse_plane', ('border', 'width', 'height'), ('low', 'high', 'plane', 'll', 'lh', 'hl', 'hh', 'scratch'), (3, 4, 5, 6, 7)),
     22: Shape('synthesise_plane', ('width', 'height'), ('low', 'high', 'll', 'lh', 'hl', 'hh', 'plane', 'scratch'), (6, 7)),
     23: Shape('compare_bands', ('width', 'height'), ('first', 'second'), ()),
+    # of the judge alone
     24: Shape('large_plane', ('border', 'width', 'height'), ('low', 'high', 'block', 'digests'), (3,)),
+    # of the lists alone: the tests on lengths, which take what no program could lend, and entries that are not for C
+    25: Shape('analysis_answer', ('f', 'n', 'approx', 'detail', 'scratch'), (), ()),
+    26: Shape('synthesis_answer', ('f', 'approx', 'detail', 'out'), (), ()),
+    27: Shape('convolution_answer', ('border', 'n', 'out', 'f', 'centre', 'scratch'), (), ()),
+    28: Shape('levels_answer', ('n', 'f', 'levels', 'packed', 'scratch'), (), ()),
+    29: Shape('restoring_answer', ('n', 'f', 'levels', 'packed', 'first', 'second'), (), ()),
+    30: Shape('handing_answer', ('n', 'f', 'levels', 'packed', 'level'), (), ()),
+    31: Shape('plane_analysis_answer', ('width', 'height', 'f', 'plane', 'scratch', 'll', 'lh', 'hl', 'hh'), (), ()),
+    32: Shape('plane_synthesis_answer', ('width', 'height', 'f', 'plane', 'scratch', 'll', 'lh', 'hl', 'hh'), (), ()),
+    33: Shape('comparing_answer', ('width', 'height', 'first', 'second'), (), ()),
+    34: Shape('back_answer', ('f', 'n', 'approx', 'detail', 'scratch', 'out'), (), ()),
+    35: Shape('there_and_back', ('border',), ('low', 'high', 'line', 'approx', 'detail', 'scratch', 'out'), (3, 4, 5, 6)),
+    36: Shape('level_details', ('n', 'f', 'levels', 'level'), ('packed', 'part'), (1,)),
+    37: Shape('restored_line', ('n', 'levels'), ('low', 'high', 'packed', 'first', 'second', 'restored'), (3, 4, 5)),
 }
-ANALYSE, SYNTHESISE, CONVOLVE, BAND_LENGTH, LINE_LENGTH, ANALYSIS_SCRATCH, CONVOLUTION_SCRATCH, MIRROR = range(1, 9)
-PACKED_LENGTH, LEVELS_SCRATCH, RESTORING_LENGTH, MOST_LEVELS, LEVEL_PART, ANALYSE_LEVELS, RESTORE_LEVELS, READ_PLACE = range(9, 17)
-PLANE_BAND_WIDTH, PLANE_BAND_HEIGHT, PLANE_BAND_LENGTH, PLANE_SCRATCH, ANALYSE_PLANE, SYNTHESISE_PLANE, COMPARE_BANDS, LARGE_PLANE = range(17, 25)
-PLANE_SIZES = (PLANE_BAND_WIDTH, PLANE_BAND_HEIGHT, PLANE_BAND_LENGTH, PLANE_SCRATCH)
+globals().update({shape.name.upper(): op for op, shape in SHAPES.items()})
+PLANE_SIZES = tuple(op for op, shape in SHAPES.items() if shape.name.startswith('plane_') and shape.scalars == ('width', 'height', 'f'))
+# the judge's two sides know the operations up to this one
+JUDGED = LARGE_PLANE
 
 if sys.byteorder != 'little' or array.array('Q').itemsize != 8:
     sys.exit('protocol.py: this machine is not little-endian with words of 64 bits')
@@ -123,6 +140,34 @@ def in_hex(words):
     return ' '.join('%016X' % word for word in words)
 
 
+# --- a line of a list: the call, its answer, then each list before it and, where it is another then, after it
+
+OPEN = None
+FORM = (
+    '# A line: the operation and what it is told besides lists | the number and what it carries | each list before the call | and after it, where it is another then | ..',
+    '# Words are hex, a float by its bits, every NaN after a call as one; W*N is N times W, ? a place left open. judge/protocol.py has the operations.')
+
+
+def spelled(words):
+    """The words of a list: a run of equal ones once with its length, ? for a place left open."""
+    return ' '.join(('?' if word is OPEN else '%X' % word) + ('*%X' % count if count > 1 else '')
+                    for word, count in ((word, len(list(run))) for word, run in itertools.groupby(words)))
+
+
+def line(case, answer, after):
+    """`after` has for each lent list its words after the call."""
+    parts = [' '.join('%X' % (word % 2**64) for word in words) for words in ((case.op, *case.scalars), answer)]
+    left = dict(zip(case.shape().lent, after, strict=True))
+    for i, words in enumerate(case.lists):
+        words = list(words)
+        parts += [spelled(words), '' if left.get(i, words) == words else spelled(left[i])]
+    return '|'.join(parts).rstrip('|') + '\n'
+
+
+def one_nan(word):
+    return ONE_NAN if word & (2**63 - 1) > 0x7FF0000000000000 else word
+
+
 def readable_case(case):
     shape = case.shape()
     lines = [shape.name]
@@ -151,3 +196,29 @@ def readable_result(who, case, result):
     if result.flags & 2:
         lines.append('  a list that is only read changed')
     return lines
+
+
+# --- the operations for the judge's two sides
+
+def in_c():
+    for op, shape in SHAPES.items():
+        if op <= JUDGED:
+            yield '#define %s %d' % (shape.name.upper(), op)
+    yield '#define OPERATIONS %d' % JUDGED
+    yield '/* By operation: how many scalars, how many lists, which of them are lent (a bit each). */'
+    yield 'static const struct { int scalars, lists, lent; } shapes[OPERATIONS + 1] = {'
+    yield '    {0, 0, 0},'
+    for op in range(1, JUDGED + 1):
+        shape = SHAPES[op]
+        yield '    {%d, %d, 0x%02X},' % (len(shape.scalars), len(shape.lists), sum(1 << i for i in shape.lent))
+    yield '};'
+
+
+def in_rust():
+    for op, shape in SHAPES.items():
+        if op <= JUDGED:
+            yield 'pub const %s: u64 = %d;' % (shape.name.upper(), op)
+
+
+if __name__ == '__main__':
+    print('\n'.join({'c': in_c, 'rust': in_rust}[sys.argv[1]]()))

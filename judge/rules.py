@@ -1,9 +1,11 @@
 """Document 01's tests, from its text: which number answers a case and what it carries, and how far a done call may write its buffers.
 
 An answer is a tuple, the number first. Two numbers are the C interface's own: NO_BORDER, tested before everything else, and DIFFER, told where two bands that passed every test differ."""
-from protocol import (ANALYSE, ANALYSE_LEVELS, ANALYSE_PLANE, ANALYSIS_SCRATCH, BAND_LENGTH, BORDERS, COMPARE_BANDS, CONVOLVE, CONVOLUTION_SCRATCH,
-                      LARGE_PLANE, LEVEL_PART, LEVELS_SCRATCH, LINE_LENGTH, MIRROR, MOST_LEVELS, ONE_NAN, PACKED_LENGTH, PLANE_BAND_HEIGHT,
-                      PLANE_BAND_LENGTH, PLANE_BAND_WIDTH, PLANE_SCRATCH, READ_PLACE, RESTORE_LEVELS, RESTORING_LENGTH, SYNTHESISE, SYNTHESISE_PLANE)
+from protocol import (ANALYSE, ANALYSE_LEVELS, ANALYSE_PLANE, ANALYSIS_ANSWER, ANALYSIS_SCRATCH, BACK_ANSWER, BAND_LENGTH, BORDERS, COMPARE_BANDS, COMPARING_ANSWER,
+                      CONVOLUTION_ANSWER, CONVOLUTION_SCRATCH, CONVOLVE, HANDING_ANSWER, LARGE_PLANE, LEVEL_DETAILS, LEVEL_PART, LEVELS_ANSWER, LEVELS_SCRATCH,
+                      LINE_LENGTH, MIRROR, MOST_LEVELS, one_nan, PACKED_LENGTH, PLANE_ANALYSIS_ANSWER, PLANE_BAND_HEIGHT, PLANE_BAND_LENGTH, PLANE_BAND_WIDTH,
+                      PLANE_SCRATCH, PLANE_SYNTHESIS_ANSWER, READ_PLACE, RESTORE_LEVELS, RESTORED_LINE, RESTORING_ANSWER, RESTORING_LENGTH, SYNTHESISE,
+                      SYNTHESISE_PLANE, SYNTHESIS_ANSWER, THERE_AND_BACK)
 
 LIMIT = 1048576
 MOST_OF_PLANE = 16777216
@@ -324,22 +326,39 @@ def large_plane(border, width, height, f, highs, blocks, digests):
     return synthesise_plane(width, height, f, highs, *bands, width * height, need) if there == (0,) else there
 
 
-def one_nan(word):
-    return ONE_NAN if word & (2**63 - 1) > 0x7FF0000000000000 else word
+def comparing_answer(width, height, firsts, seconds):
+    asked = sides(width, height)
+    if asked != (0,):
+        return asked
+    return next(((10, width * height, count) for count in (firsts, seconds) if count != width * height), (0,))
 
 
 def compare_bands(width, height, first, second):
     """Told the bands themselves: column by column up to the first place where the bits differ, every NaN being one."""
-    asked = sides(width, height)
-    if asked != (0,):
-        return asked
-    for words in (first, second):
-        if len(words) != width * height:
-            return 10, width * height, len(words)
+    held = comparing_answer(width, height, len(first), len(second))
+    if held != (0,):
+        return held
     for place, (x, y) in enumerate(zip(first, second)):
         if x != y and one_nan(x) != one_nan(y):
             return DIFFER, place // height, place % height
     return 0,
+
+
+# --- tests on lengths alone, and entries that are not for C
+
+def back_answer(f, n, approxes, details, scratches, outs):
+    there = analyse(0, f, f, n, approxes, details, scratches)
+    return synthesise(f, f, approxes, details, outs) if there == (0,) else there
+
+
+def handing_answer(n, f, levels, packeds, level):
+    return level_named(levels_held(n, f, levels, packeds), levels, level)
+
+
+def restoring_answer(n, f, levels, packeds, firsts, seconds):
+    """The answer is the same as for C, but carries nothing where it is done."""
+    answer = restore_levels(n, levels, f, f, packeds, firsts, seconds)
+    return answer if answer[0] else (0,)
 
 
 TESTS = {
@@ -366,6 +385,19 @@ TESTS = {
     ANALYSE_PLANE: analyse_plane,
     SYNTHESISE_PLANE: synthesise_plane,
     LARGE_PLANE: large_plane,
+    ANALYSIS_ANSWER: lambda f, n, approxes, details, scratches: analyse(0, f, f, n, approxes, details, scratches),
+    SYNTHESIS_ANSWER: lambda f, approxes, details, outs: synthesise(f, f, approxes, details, outs),
+    CONVOLUTION_ANSWER: lambda border, n, outs, f, centre, scratches: convolve(border, centre, n, outs, scratches, f),
+    LEVELS_ANSWER: lambda n, f, levels, packeds, scratches: analyse_levels(0, levels, f, f, n, packeds, scratches),
+    RESTORING_ANSWER: restoring_answer,
+    HANDING_ANSWER: handing_answer,
+    PLANE_ANALYSIS_ANSWER: lambda width, height, f, planes, scratches, *bands: analyse_plane(0, width, height, f, f, planes, *bands, scratches),
+    PLANE_SYNTHESIS_ANSWER: lambda width, height, f, planes, scratches, *bands: synthesise_plane(width, height, f, f, *bands, planes, scratches),
+    COMPARING_ANSWER: comparing_answer,
+    BACK_ANSWER: back_answer,
+    THERE_AND_BACK: lambda border, f, highs, *lengths: back_answer(f, *lengths) if f == highs else (12,),
+    LEVEL_DETAILS: lambda n, f, levels, level, packeds, _: handing_answer(n, f, levels, packeds, level),
+    RESTORED_LINE: lambda n, levels, f, highs, packeds, firsts, seconds, _: restoring_answer(n, f, levels, packeds, firsts, seconds) if f == highs else (12,),
 }
 
 

@@ -1,0 +1,121 @@
+// One line: its call, and whether all that it answers and leaves is as the line says.
+use crate::floats::list;
+use crate::floats::same;
+use crate::on_banks;
+use crate::on_lengths;
+use crate::on_levels;
+use crate::on_lines;
+use crate::on_planes;
+use crate::parts::count;
+use crate::parts::item;
+use crate::parts::part;
+use crate::parts::scalar;
+
+// What a word holds before a call.
+const BLANK: usize = 81985529216486895;
+
+// A value that the answer carries, or the blank that it left.
+fn value(words: &[u64], at: usize, i: usize) -> usize {
+    if count(words, at) <= i {
+        return BLANK;
+    }
+    item(words, at, i) as usize
+}
+
+// Whether a number and what it carries are as the line says.
+fn told(words: &[u64], number: u64, carried: &[usize; 2]) -> bool {
+    let at = part(words, 1);
+    item(words, at, 0) == number
+        && value(words, at, 1) == carried[0]
+        && value(words, at, 2) == carried[1]
+}
+
+fn ask(
+    words: &[u64],
+    a: &mut [f64],
+    b: &mut [f64],
+    c: &mut [f64],
+    d: &mut [f64],
+    e: &mut [f64],
+    f: &mut [f64],
+    g: &mut [f64],
+    h: &mut [f64],
+    carried: &mut [usize; 2],
+) -> u64 {
+    match scalar(words, 0) {
+        1..=8 => on_lines::ask(words, a, b, c, d, e, f, carried),
+        9..=16 => on_levels::ask(words, a, b, c, d, e, carried),
+        17..=23 => on_planes::ask(words, a, b, c, d, e, f, g, h, carried),
+        25..=34 => on_lengths::ask(words, carried),
+        _ => on_banks::ask(words, a, b, c, d, e, f, g, carried),
+    }
+}
+
+// As much of an array as the k-th part has words.
+fn front<'a>(words: &[u64], k: usize, list: &'a mut [f64]) -> &'a mut [f64] {
+    let n = count(words, part(words, k));
+    if list.len() < n {
+        return &mut list[..0];
+    }
+    &mut list[..n]
+}
+
+fn ask_lists(
+    words: &[u64],
+    a: &mut [f64],
+    b: &mut [f64],
+    c: &mut [f64],
+    d: &mut [f64],
+    e: &mut [f64],
+    f: &mut [f64],
+    g: &mut [f64],
+    h: &mut [f64],
+    carried: &mut [usize; 2],
+) -> u64 {
+    ask(
+        words,
+        front(words, 2, a),
+        front(words, 4, b),
+        front(words, 6, c),
+        front(words, 8, d),
+        front(words, 10, e),
+        front(words, 12, f),
+        front(words, 14, g),
+        front(words, 16, h),
+        carried,
+    )
+}
+
+// The call of a line with up to eight lists, and whether it answers and leaves what the line says.
+pub fn agrees(words: &[u64]) -> bool {
+    let mut a = list(words, 2);
+    let mut b = list(words, 4);
+    let mut c = list(words, 6);
+    let mut d = list(words, 8);
+    let mut e = list(words, 10);
+    let mut f = list(words, 12);
+    let mut g = list(words, 14);
+    let mut h = list(words, 16);
+    let mut carried = [BLANK; 2];
+    let number = ask_lists(
+        words,
+        &mut a,
+        &mut b,
+        &mut c,
+        &mut d,
+        &mut e,
+        &mut f,
+        &mut g,
+        &mut h,
+        &mut carried,
+    );
+    told(words, number, &carried)
+        && same(words, 2, &a)
+        && same(words, 4, &b)
+        && same(words, 6, &c)
+        && same(words, 8, &d)
+        && same(words, 10, &e)
+        && same(words, 12, &f)
+        && same(words, 14, &g)
+        && same(words, 16, &h)
+}

@@ -1,0 +1,90 @@
+// Entries that are not for C: they take a bank by value or hand out a part. What is handed out goes to a list that has to be as long.
+use crate::on_lengths::back_told;
+use crate::on_lengths::handing_told;
+use crate::parts::scalar;
+use bank::Bank;
+use bank::making::bank;
+use border::pad::copy_to;
+use exact::there_and_back;
+use packed::parts;
+use restoring::restoring_answer;
+use telling::borders::border_of;
+use telling::told;
+
+fn made(low: &[f64], high: &[f64], border: usize) -> Bank {
+    let made = bank(low, high, border_of(border));
+    made.bank
+}
+
+// Whether a part went to a list of its own length.
+fn laid(part: &[f64], list: &mut [f64]) -> bool {
+    if part.len() != list.len() {
+        return false;
+    }
+    copy_to(part, list, 0);
+    true
+}
+
+// The part of the packed buffer, and the number that stands beside it.
+fn level_details(words: &[u64], packed: &[f64], part: &mut [f64], carried: &mut [usize; 2]) -> u64 {
+    let n = scalar(words, 1);
+    let f = scalar(words, 2);
+    let levels = scalar(words, 3);
+    let level = scalar(words, 4);
+    if !laid(parts::level_details(packed, n, f, levels, level), part) {
+        return crate::NO_CALL;
+    }
+    handing_told(
+        parts::handing_answer(n, f, levels, packed.len(), level),
+        carried,
+    )
+}
+
+// The restored line, and the number that stands beside it.
+fn restored_line(
+    words: &[u64],
+    bank: Bank,
+    packed: &[f64],
+    first: &mut [f64],
+    second: &mut [f64],
+    line: &mut [f64],
+    carried: &mut [usize; 2],
+) -> u64 {
+    let n = scalar(words, 1);
+    let levels = scalar(words, 2);
+    let answer = restoring_answer(
+        n,
+        bank.taps,
+        levels,
+        packed.len(),
+        first.len(),
+        second.len(),
+    );
+    let restored = restoring::restored_line(bank, packed, n, levels, first, second);
+    if !laid(restored, line) {
+        return crate::NO_CALL;
+    }
+    told::levels(answer, carried)
+}
+
+pub fn ask(
+    words: &[u64],
+    a: &mut [f64],
+    b: &mut [f64],
+    c: &mut [f64],
+    d: &mut [f64],
+    e: &mut [f64],
+    f: &mut [f64],
+    g: &mut [f64],
+    carried: &mut [usize; 2],
+) -> u64 {
+    match scalar(words, 0) {
+        35 => back_told(
+            there_and_back(made(a, b, scalar(words, 1)), c, d, e, f, g),
+            carried,
+        ),
+        36 => level_details(words, a, b, carried),
+        37 => restored_line(words, made(a, b, 0), c, d, e, f, carried),
+        _ => crate::NO_CALL,
+    }
+}

@@ -1,0 +1,64 @@
+// The entries' tests on lengths alone: they take lengths that no program here could lend.
+use crate::parts::scalar;
+use crate::parts::signed;
+use analysis::analysis_answer;
+use comparing::comparing_answer;
+use convolution::convolution_answer;
+use convolution::pads::split;
+use exact::Back;
+use exact::back_answer;
+use levels::levels_answer;
+use packed::parts::Handing;
+use packed::parts::handing_answer;
+use plane_analysis::plane_analysis_answer;
+use plane_synthesis::plane_synthesis_answer;
+use plane_telling::comparison_told;
+use plane_telling::plane_told;
+use restoring::restoring_answer;
+use synthesis::synthesis_answer;
+use telling::borders::border_of;
+use telling::told;
+
+pub fn back_told(answer: Back, carried: &mut [usize; 2]) -> u64 {
+    match answer {
+        Back::Done => 0,
+        Back::Analysis(refusal) => told::analysis(refusal, carried),
+        Back::Synthesis(refusal) => told::synthesis(refusal, carried),
+    }
+}
+
+pub fn handing_told(answer: Handing, carried: &mut [usize; 2]) -> u64 {
+    match answer {
+        Handing::Done => 0,
+        Handing::NoSuchLevel(level) => told::one(22, level, carried),
+        Handing::Refused(refusal) => told::levels(refusal, carried),
+    }
+}
+
+pub fn ask(words: &[u64], carried: &mut [usize; 2]) -> u64 {
+    let a = scalar(words, 1);
+    let b = scalar(words, 2);
+    let c = scalar(words, 3);
+    let d = scalar(words, 4);
+    let e = scalar(words, 5);
+    let f = scalar(words, 6);
+    let g = scalar(words, 7);
+    let h = scalar(words, 8);
+    let i = scalar(words, 9);
+    match scalar(words, 0) {
+        25 => told::analysis(analysis_answer(a, b, c, d, e), carried),
+        26 => told::synthesis(synthesis_answer(a, b, c, d), carried),
+        27 => told::convolution(
+            convolution_answer(border_of(a), b, c, d, split(signed(words, 5)), f),
+            carried,
+        ),
+        28 => told::levels(levels_answer(a, b, c, d, e), carried),
+        29 => told::levels(restoring_answer(a, b, c, d, e, f), carried),
+        30 => handing_told(handing_answer(a, b, c, d, e), carried),
+        31 => plane_told(plane_analysis_answer(a, b, c, d, e, f, g, h, i), carried),
+        32 => plane_told(plane_synthesis_answer(a, b, c, d, e, f, g, h, i), carried),
+        33 => comparison_told(comparing_answer(a, b, c, d), carried),
+        34 => back_told(back_answer(a, b, c, d, e, f), carried),
+        _ => crate::NO_CALL,
+    }
+}

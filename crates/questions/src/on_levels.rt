@@ -1,0 +1,50 @@
+// Calls on several levels, by their operation.
+use crate::parts::scalar;
+use isferghul::depths;
+use isferghul::packing;
+use isferghul::places;
+
+// One place is read to a list of one number.
+fn read_place(words: &[u64], packed: &[f64], value: &mut [f64], told: &mut [usize; 2]) -> u64 {
+    if value.len() != 1 {
+        return crate::NO_CALL;
+    }
+    let mut held = [value[0]];
+    let number = places::isferghul_read_place(
+        packed,
+        scalar(words, 1),
+        scalar(words, 2),
+        scalar(words, 3),
+        scalar(words, 4),
+        scalar(words, 5),
+        &mut held,
+        told,
+    );
+    value[0] = held[0];
+    number
+}
+
+pub fn ask(
+    words: &[u64],
+    a: &mut [f64],
+    b: &mut [f64],
+    c: &mut [f64],
+    d: &mut [f64],
+    e: &mut [f64],
+    told: &mut [usize; 2],
+) -> u64 {
+    let first = scalar(words, 1);
+    let second = scalar(words, 2);
+    let third = scalar(words, 3);
+    match scalar(words, 0) {
+        9 => depths::isferghul_packed_length(first, second, third, told),
+        10 => depths::isferghul_levels_scratch(first, second, third, told),
+        11 => depths::isferghul_restoring_length(first, second, third, told),
+        12 => depths::isferghul_most_levels(first, second, told),
+        13 => depths::isferghul_level_part(first, second, third, scalar(words, 4), told),
+        14 => packing::isferghul_analyse_levels(first, a, b, c, second, d, e, told),
+        15 => packing::isferghul_restore_levels(a, b, c, first, second, d, e, told),
+        16 => read_place(words, a, b, told),
+        _ => crate::NO_CALL,
+    }
+}

@@ -1,2 +1,0 @@
--- The replay. Laws: Fronts.
-pub mod Fronts
