@@ -1,34 +1,19 @@
--- Laws of the sums over taps: a loop over the taps makes the sum, and over a padded line the sum is the band's.
-use mathlib.Core.Path.{_≡_, refl, sym, ap, _∙_}
+-- Laws of bands: taps and lines that agree where they are in use have one band, and over a padded line the sum over taps is the band's.
+use mathlib.Core.Path.{_≡_, refl, ap, _∙_}
 use mathlib.Core.List.{List}
-use Prim.Native.Nat.{ℕ, zero, suc, _+_, _*_, _≤_, _<_}
-use native.Mathlib.Numerals.{add-one}
+use Prim.Native.Nat.{ℕ, zero, suc, _+_, _*_, _<_}
 use native.Mathlib.Omega.{arith}
 use lib.ListN.{length}
-use lib.Ieee.{Float, nan, Format, add, mul, binary64, ofBits}
+use lib.Ieee.{Float, nan, Format, add, mul}
 use Rattle.numbers.specs.Words.{at, tab}
 use Rattle.numbers.specs.Write.{length-tab}
 use Rattle.numbers.specs.Places.{tab-same, getD-written-in}
-use Rattle.numbers.specs.Tests.{literal-zero}
 use Rattle.border.specs.declared.Border.{Border}
-use Rattle.analysis.specs.Sums.{dot, analysed}
+use Rattle.summing.specs.Sums.{dot, tapSum}
+use Rattle.analysis.specs.Sums.{analysed}
 use Rattle.analysis.specs.Lines.{paddedAt, paddedInto, band}
-use Rattle.analysis.specs.Works.{bandOf, tapSum}
+use Rattle.analysis.specs.Works.{bandOf}
 use Rattle.bank.specs.Lengths.{pairs, paddedLength}
-
--- a loop over the taps: as it begins, one tap, and as it ends
-pub sum-start : (taps line : List Float) (from : ℕ) → ofBits binary64 0 ≡ tapSum binary64 taps line from 0
-unfolding tapSum
-sum-start taps line from = literal-zero binary64
-
-pub sum-step : (f : Format) (taps line : List Float) (from j : ℕ) {sum r : Float}
-    → sum ≡ tapSum f taps line from j → r ≡ add f sum (mul f (at taps j) (at line (from + j))) → r ≡ tapSum f taps line from (j + 1)
-unfolding tapSum
-sum-step f taps line from j {sum} e h =
-    h ∙ ap (λ (z : Float). add f z (mul f (at taps j) (at line (from + j)))) e ∙ sym (ap (tapSum f taps line from) (add-one j))
-
-pub sum-end : (f : Format) (taps line : List Float) (from j n : ℕ) {sum : Float} → sum ≡ tapSum f taps line from j → j ≤ n → n ≤ j → sum ≡ tapSum f taps line from n
-sum-end f taps line from j n e h k = let q : j ≡ n = omega arith in rw (← q) e
 
 -- taps and lines that agree at every place in use have one sum
 dot-same : (f : Format) (tap tap′ x y : ℕ → Float) (n : ℕ) → ((j : ℕ) → j < n → tap j ≡ tap′ j) → ((j : ℕ) → j < n → x j ≡ y j)

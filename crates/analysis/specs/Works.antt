@@ -5,22 +5,12 @@ use Prim.Native.Nat.{ℕ, _+_, _-_, _*_, _≤_}
 use lib.ListN.{take, drop}
 use lib.Ieee.{Float, Format}
 use Rattle.numbers.specs.Words.{at, tab, placed}
+use Rattle.summing.specs.Sums.{tapSum}
 use Rattle.bank.specs.Lengths.{pairs, paddedLength, Analysable}
-use Rattle.analysis.specs.Sums.{dot}
-
--- the sum of k taps over a line that holds the padded samples, from a place of it on
-unfoldable pub tapSum : Format → List Float → List Float → ℕ → ℕ → Float
-unfolding dot
-tapSum f taps line from k = dot f (at taps) (λ j. at line (from + j)) k
 
 -- place i of the band
 abbrev pub bandOf : Format → List Float → ℕ → List Float → ℕ → Float
 bandOf f taps F line i = tapSum f taps line (2 * i) F
-
--- f taps over a padded line, from a place on
-pub record Placeable (f padded from : ℕ) : Type 0 where
-  pub most : f ≤ 64
-  pub within : from + f ≤ padded
 
 -- two bands of a padded line
 pub record Bandable (f padded approx detail : ℕ) : Type 0 where

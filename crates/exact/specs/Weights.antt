@@ -10,8 +10,9 @@ use Rattle.whole.specs.Sums.{integers, naturals, sum}
 use Rattle.whole.specs.Integers.{size-add, size-mul}
 use Rattle.whole.specs.Floats.{Whole, Within}
 use Rattle.whole.specs.Exact.{add-whole, mul-whole, zero-whole}
-use Rattle.analysis.specs.Sums.{dot}
-use Rattle.synthesis.specs.Sums.{meets, onto, joined}
+use Rattle.summing.specs.Sums.{dot}
+use Rattle.spreading.specs.Pairs.{onto}
+use Rattle.synthesis.specs.Sums.{meets, joined}
 use Rattle.synthesis.specs.Meets.{reached}
 use Rattle.exact.specs.Classes.{joinsℤ}
 

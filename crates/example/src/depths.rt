@@ -3,11 +3,11 @@ use crate::show;
 use bank::Bank;
 use bank::making::bank;
 use border::Border;
+use level_parts::Reading;
+use level_parts::level_details;
+use level_parts::read_place;
 use levels::analyse_levels;
 use packed::Levels;
-use packed::parts::Reading;
-use packed::parts::level_details;
-use packed::parts::read_place;
 use restoring::restored_line;
 
 fn sums() -> Bank {

@@ -1,5 +1,5 @@
 // A label and its number, then a line for each float.
-use printing::digits::bits;
+use laying::digits::bits;
 
 pub fn word(label: &[u8]) {
     io::write_all(1, label);

@@ -3,9 +3,10 @@ use mathlib.Core.List.{List}
 use Prim.Native.Nat.{ℕ}
 use lib.Ieee.{Float}
 use Rattle.packed.specs.Lengths.{packedLength, levelsScratch, restoringLength, mostLevels}
-use Rattle.packed.specs.Answers.{sizeOf, sizeNumber, sizeValues, partOf, partNumber, partValues, readingOf}
+use Rattle.level_sizes.specs.Sizes.{sizeOf, sizeNumber, sizeValues, partOf, partNumber, partValues}
+use Rattle.level_parts.specs.Parts.{readingOf}
 use Rattle.telling.specs.Told.{Told}
-use Rattle.telling.specs.Readings.{ReadingTold}
+use Rattle.level_telling.specs.Readings.{ReadingTold}
 
 -- a length l that so many levels have
 abbrev pub SizeTold : ℕ → ℕ → ℕ → ℕ → List ℕ → ℕ → List ℕ → Type 0

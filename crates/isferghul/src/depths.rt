@@ -1,7 +1,6 @@
 // The lengths of levels, and where each stands in the packed buffer, for C.
 ghost use Rattle.isferghul.specs.Levels.{PackedLengthTold, LevelsScratchTold, RestoringLengthTold, MostLevelsTold, LevelPartTold};
-use packed::sizes;
-use telling::told;
+use level_telling::told;
 
 #[no_mangle]
 pub extern "C" fn isferghul_packed_length(
@@ -12,7 +11,7 @@ pub extern "C" fn isferghul_packed_length(
 ) -> u64
     ensures { λ r. ⌜ PackedLengthTold n f levels (now (carried .entry)) r (now (carried .exit)) ⌝ }
 {
-    told::level_size(sizes::packed_length(n, f, levels), carried)
+    told::level_size(level_sizes::packed_length(n, f, levels), carried)
 }
 
 #[no_mangle]
@@ -24,7 +23,7 @@ pub extern "C" fn isferghul_levels_scratch(
 ) -> u64
     ensures { λ r. ⌜ LevelsScratchTold n f levels (now (carried .entry)) r (now (carried .exit)) ⌝ }
 {
-    told::level_size(sizes::levels_scratch(n, f, levels), carried)
+    told::level_size(level_sizes::levels_scratch(n, f, levels), carried)
 }
 
 #[no_mangle]
@@ -36,14 +35,14 @@ pub extern "C" fn isferghul_restoring_length(
 ) -> u64
     ensures { λ r. ⌜ RestoringLengthTold n f levels (now (carried .entry)) r (now (carried .exit)) ⌝ }
 {
-    told::level_size(sizes::restoring_length(n, f, levels), carried)
+    told::level_size(level_sizes::restoring_length(n, f, levels), carried)
 }
 
 #[no_mangle]
 pub extern "C" fn isferghul_most_levels(n: usize, f: usize, carried: &mut [usize; 2]) -> u64
     ensures { λ r. ⌜ MostLevelsTold n f (now (carried .entry)) r (now (carried .exit)) ⌝ }
 {
-    told::level_size(sizes::most_levels(n, f), carried)
+    told::level_size(level_sizes::most_levels(n, f), carried)
 }
 
 #[no_mangle]
@@ -56,5 +55,5 @@ pub extern "C" fn isferghul_level_part(
 ) -> u64
     ensures { λ r. ⌜ LevelPartTold n f levels level (now (carried .entry)) r (now (carried .exit)) ⌝ }
 {
-    told::level_part(sizes::level_part(n, f, levels, level), carried)
+    told::level_part(level_sizes::level_part(n, f, levels, level), carried)
 }

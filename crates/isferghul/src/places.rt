@@ -1,7 +1,7 @@
 // One place of the packed buffer, for C.
 ghost use Rattle.isferghul.specs.Levels.{PlaceTold};
-use packed::parts;
-use telling::told;
+use level_parts::read_place;
+use level_telling::told;
 
 #[no_mangle]
 pub extern "C" fn isferghul_read_place(
@@ -16,6 +16,6 @@ pub extern "C" fn isferghul_read_place(
 ) -> u64
     ensures { λ r. ⌜ PlaceTold n f levels level place (now (packed .entry)) (now (value .entry)) (now (carried .entry)) r (now (value .exit)) (now (carried .exit)) ⌝ }
 {
-    let answer = parts::read_place(packed, n, f, levels, level, place);
+    let answer = read_place(packed, n, f, levels, level, place);
     told::reading(answer, value, carried)
 }

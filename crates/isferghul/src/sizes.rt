@@ -2,7 +2,7 @@
 ghost use Rattle.isferghul.specs.Sizes.{BandLengthTold, LineLengthTold, AnalysisScratchTold, ConvolutionScratchTold};
 use bank::sizes;
 use convolution::pads;
-use telling::told;
+use line_telling::told;
 
 #[no_mangle]
 pub extern "C" fn isferghul_band_length(n: usize, f: usize, carried: &mut [usize; 2]) -> u64

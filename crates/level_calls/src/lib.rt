@@ -2,6 +2,7 @@
 ghost use mathlib.Core.Path.{_≡_};
 ghost use Rattle.level_calls.specs.Packing.{holder, LevelsTold, RestoringTold};
 use border::pad::copy_to;
+use level_telling::told;
 use levels::levels_answer;
 use levels::work::split;
 use line_calls::taps::taps_of;
@@ -11,7 +12,8 @@ use restoring::restoring_answer;
 use restoring::work::restore;
 use telling::borders::border_of;
 use telling::borders::no_border;
-use telling::told;
+use telling::told::one;
+use telling::told::two;
 
 pub fn analyse_levels(
     border: usize,
@@ -27,7 +29,7 @@ pub fn analyse_levels(
         r (now (packed .exit)) (now (scratch .exit)) (now (carried .exit)) ⌝ }
 {
     if no_border(border) {
-        return told::one(26, border, carried);
+        return one(26, border, carried);
     }
     let f = taps_of(low.len(), high.len());
     let answer = levels_answer(line.len(), f, levels, packed.len(), scratch.len());
@@ -87,5 +89,5 @@ pub fn restore_levels(
     copy_to(low, &mut l, 0);
     copy_to(high, &mut h, 0);
     restore(&l, &h, f, packed, n, most(levels, 1), first, second);
-    told::two(0, holder_of(levels), restoring_need(n, f), carried)
+    two(0, holder_of(levels), restoring_need(n, f), carried)
 }

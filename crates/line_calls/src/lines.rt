@@ -5,11 +5,12 @@ use analysis::analysis_answer;
 use analysis::work::line_bands;
 use border::pad::copy_line;
 use border::pad::copy_to;
+use line_telling::told;
 use synthesis::synthesis_answer;
 use synthesis::work::join;
 use telling::borders::border_of;
 use telling::borders::no_border;
-use telling::told;
+use telling::told::one;
 
 pub fn analyse(
     border: usize,
@@ -25,7 +26,7 @@ pub fn analyse(
         r (now (approx .exit)) (now (detail .exit)) (now (scratch .exit)) (now (carried .exit)) ⌝ }
 {
     if no_border(border) {
-        return told::one(26, border, carried);
+        return one(26, border, carried);
     }
     let f = taps_of(low.len(), high.len());
     let answer = analysis_answer(f, line.len(), approx.len(), detail.len(), scratch.len());
@@ -79,7 +80,7 @@ pub fn convolve(
         r (now (out .exit)) (now (scratch .exit)) (now (carried .exit)) ⌝ }
 {
     if no_border(border) {
-        return told::one(26, border, carried);
+        return one(26, border, carried);
     }
     let answer = convolution::convolve(border_of(border), line, out, scratch, kernel, centre);
     told::convolution(answer, carried)

@@ -1,27 +1,21 @@
 -- Laws of the tests: an answer is done where every test passed, which gives the work what it asks for; tests that follow others speak where those are done; and what going down a line finds tells whether each level has one to split.
 use mathlib.Core.Path.{_≡_, refl, sym, ap, _∙_, subst}
 use mathlib.Core.Bool.{Bool, true, false, cond, not}
-use Prim.Native.Nat.{ℕ, zero, suc, _+_, _-_, _≤_, _<_}
+use Prim.Native.Nat.{ℕ, zero, suc, _-_, _≤_, _<_}
 use native.Mathlib.Decide.{decLt}
 use native.Mathlib.Omega.{arith}
 use borrow.Author.Tests.{eqb-true, ltb-false, not-false}
 use lib.Dec.{eqb, ltb, lit<}
-use lib.ListN.{length, take, drop}
-use lib.Ieee.{Float}
-use mathlib.Core.List.{List, []}
 use Rattle.numbers.specs.Words.{longest, whenDone}
-use Rattle.numbers.specs.Tests.{passed, kept, stopped-by, went-on-by, both-done-by}
+use Rattle.numbers.specs.Tests.{passed, stopped-by, went-on-by, both-done-by}
 use Rattle.bank.specs.Lengths.{badTaps, pairs, Analysable}
 use Rattle.bank.specs.Tested.{good-taps}
 use Rattle.packed.specs.declared.Levels.{Levels}
 use Rattle.packed.specs.declared.Levels.the-variants.{Done, MinFilterSize, ScratchSize, BufferWasTooSmallForLevel, InputSize, Limit, Taps}
 use Rattle.packed.specs.declared.depth.Depth.{Depth}
 use Rattle.packed.specs.Lengths.{levelsOf, lineAfter, tooShort, detailsTo, packedLength, levelStart, levelCount, mostLevels}
-use Rattle.packed.specs.declared.parts.Handing.{Handing}
-use Rattle.packed.specs.declared.parts.Handing.the-variants as handing
-use Rattle.packed.specs.Answers.{numberOf, handingNumber, andThen, askedOf, heldOf, handingOf, partAt, HandedOut}
+use Rattle.packed.specs.Answers.{numberOf, andThen, askedOf, heldOf}
 use Rattle.packed.specs.Works.{Sound, Split, Named, Filled, Down}
-use Rattle.packed.specs.Follow.{part-is}
 use Rattle.packed.specs.Falls.{line-none, long-before, all-before, short-at, fallen, most-levels}
 
 -- 0 is the number of done alone
@@ -112,42 +106,6 @@ level-part n f levels (suc k) r p h d =
     let l = all-before n f k (levelsOf levels) (p .split .long) (omega (arith, p .named)) in
     let w = all-the-way n f k r l (subst (λ (j : ℕ). Down n f j r) (omega arith) d) in
     (w .1, ap (λ (j : ℕ). pairs j f) (w .2), omega (arith, w .2, fallen n f k (p .split .sound .taps) l .fewer))
-
--- ---- handing out
--- it is done where the tests before it are and the level is there, and nowhere else
-named-after : (h : Levels) (t : Bool) (level : ℕ) → whenDone (numberOf h) (cond t (handing.NoSuchLevel level) handing.Done) (handing.Refused h) ≡ handing.Done → (h ≡ Done) × (t ≡ false)
-named-after h t level e = go (numberOf h) refl e
-  where
-    go : (k : ℕ) → numberOf h ≡ k → whenDone k (cond t (handing.NoSuchLevel level) handing.Done) (handing.Refused h) ≡ handing.Done → (h ≡ Done) × (t ≡ false)
-    go zero q r = (done-alone h q, passed handingNumber t r (lit< tt) refl .0)
-    go (suc k) q r = let z = ap handingNumber r in absurd (omega (arith, z, q))
-
-pub handing-done : (n f levels p level : ℕ) → handingOf n f levels p level ≡ handing.Done → Named n f levels level × (p ≡ packedLength n f levels)
-unfolding handingOf
-handing-done n f levels p level e =
-    let q = named-after (heldOf n f levels p) (ltb (levelsOf levels) level) level e in
-    let d = held-done n f levels p (q .0) in
-    (record { split = d .0; named = ltb-false (levelsOf levels) level (q .1) }, d .1)
-
--- what is not done has a number above 0
-refused-after : (h : Levels) (t : Bool) (level : ℕ)
-    → let r = whenDone (numberOf h) (cond t (handing.NoSuchLevel level) handing.Done) (handing.Refused h) in (r ≡ handing.Done → ⊥) → 0 < handingNumber r
-refused-after h t level n = go (numberOf h) refl t n
-  where
-    go : (k : ℕ) → numberOf h ≡ k → (t : Bool) → let r = whenDone k (cond t (handing.NoSuchLevel level) handing.Done) (handing.Refused h) in (r ≡ handing.Done → ⊥) → 0 < handingNumber r
-    go zero q true n = lit< tt
-    go zero q false n = absurd (n refl)
-    go (suc k) q t n = omega (arith, q)
-
-pub handed-none : {n f levels level : ℕ} {packed : List Float} (r : Handing) → r ≡ handingOf n f levels (length packed) level → (r ≡ handing.Done → ⊥) → HandedOut n f levels level packed []
-unfolding handingOf
-handed-none {n} {f} {levels} {level} {packed} r e h =
-    record { handed = kept _ (refused-after (heldOf n f levels (length packed)) (ltb (levelsOf levels) level) level (λ q. h (e ∙ q))) (partAt n f levels packed level) [] }
-
-pub handed-part : (n f levels level start count : ℕ) (packed : List Float) → handingOf n f levels (length packed) level ≡ handing.Done → start ≡ levelStart n f levels level → count ≡ levelCount n f levels level
-    → HandedOut n f levels level packed (take (start + count - start) (drop start packed))
-handed-part n f levels level start count packed e p q =
-    record { handed = part-is n f levels level start count packed p q ∙ sym (ap (λ (r : Handing). whenDone (handingNumber r) (partAt n f levels packed level) []) e) }
 
 -- ---- what the work of analysis and of restoring is given
 -- k is the number of levels by another name

@@ -1,7 +1,5 @@
-// The packed buffer of several levels: details 1, details 2 and so on, then the last approximations. Here are its lengths, tests and parts, and no sums.
+// The packed buffer of several levels: details 1, details 2 and so on, then the last approximations. Here are its lengths and tests, and no sums.
 pub mod depth;
-pub mod parts;
-pub mod sizes;
 
 ghost use mathlib.Core.Path.{_≡_};
 ghost use Rattle.packed.specs.Answers.{askedOf, heldOf};

@@ -1,36 +1,18 @@
--- Laws of a byte: the code's tests of it are those of Steps, and a number that it ends is the next on the buffer.
+-- Laws of a byte: a number that it ends is the next on the buffer.
 use mathlib.Core.Path.{_≡_, refl, sym, ap, _∙_, subst}
 use mathlib.Core.Bool.{Bool, true, false, not, cond}
 use mathlib.Core.List.{List, [], _∷_}
-use Prim.Native.Nat.{ℕ, _+_, _-_, _≤_, _<_}
+use Prim.Native.Nat.{ℕ, _+_, _≤_}
 use native.Mathlib.Omega.{arith}
-use borrow.Author.Tests.{lt-ltb, le-ltb, not-true, not-false}
+use borrow.Author.Tests.{not-true, not-false}
 use lib.ListN.{length, set}
 use lib.Ieee.{Float}
 use Rattle.texts.specs.Laid.{set-past}
-use Rattle.parsing.specs.declared.phase.Phase.{Phase}
-use Rattle.parsing.specs.declared.phase.Phase.the-variants.{Number, Broken}
-use Rattle.parsing.specs.Steps.{least, firstly, valueOf, separates, numberBy, endedBy, keptOn}
+use Rattle.phases.specs.declared.Phase.{Phase}
+use Rattle.phases.specs.declared.Phase.the-variants.{Number}
+use Rattle.phases.specs.Phases.{valueOf}
+use Rattle.parsing.specs.Steps.{separates, numberBy, endedBy, keptOn}
 
--- ---- the first digit
-module _ (negative : Bool) (c : ℕ) {l : ℕ} (e : l ≡ least negative) where
-  pub first-low : c < l → Broken ≡ firstly negative c
-  first-low h = simp (lt-ltb c (least negative) (subst (λ (k : ℕ). c < k) e h))
-
-  pub first-high : l ≤ c → 57 < c → Broken ≡ firstly negative c
-  first-high h t = simp (le-ltb c (least negative) (subst (λ (k : ℕ). k ≤ c) e h), lt-ltb 57 c t)
-
-  pub first-digit : l ≤ c → c ≤ 57 → Number negative (c - 48) ≡ firstly negative c
-  first-digit h t = simp (le-ltb c (least negative) (subst (λ (k : ℕ). k ≤ c) e h), le-ltb 57 c t)
-
-  pub is-digit : l ≤ c → 48 ≤ c
-  is-digit h = low negative (subst (λ (k : ℕ). k ≤ c) e h)
-    where
-      low : (negative : Bool) → least negative ≤ c → 48 ≤ c
-      low true h = omega (arith, h)
-      low false h = h
-
--- ---- a number that has ended
 module _ (negative : Bool) (size c : ℕ) (out : List Float) (count : ℕ) where
   abbrev Kept : List Float → ℕ → List Float → Type 0
   Kept items r out′ = (r ≡ count + length items) × (out′ ≡ keptOn items out count)

@@ -12,9 +12,10 @@ use Rattle.whole.specs.Floats.{floats}
 use Rattle.texts.specs.Texts.{newline, space, minus, digit, digitsOf, decimal, numeral, othersText, lineText, greatest, InRange}
 use Rattle.texts.specs.Texts.InRange.{also}
 use Rattle.texts.specs.Numerals.{fits, fits-decimal}
-use Rattle.parsing.specs.declared.phase.Phase.{Phase}
-use Rattle.parsing.specs.declared.phase.Phase.the-variants.{Fresh, Next, Minus, Number, Closed}
-use Rattle.parsing.specs.Steps.{firstly, starting, freshly, grown, behind, stepped, closedAt, valueOf, separates, endedBy, got, lineFrom, gotOf}
+use Rattle.phases.specs.declared.Phase.{Phase}
+use Rattle.phases.specs.declared.Phase.the-variants.{Fresh, Next, Minus, Number, Closed}
+use Rattle.phases.specs.Phases.{firstly, starting, freshly, grown, behind, stepped, closedAt, valueOf}
+use Rattle.parsing.specs.Steps.{separates, endedBy, got, lineFrom, gotOf}
 use Rattle.parsing.specs.Values.{Valid, value-whole}
 
 -- a phase in which a number with this sign starts

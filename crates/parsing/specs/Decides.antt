@@ -15,9 +15,9 @@ use Rattle.border.specs.declared.Border.{Border}
 use Rattle.border.specs.declared.Border.the-variants.{Clamp, Wrap, Reflect, Zeros, Reflect101}
 use Rattle.texts.specs.Texts.{newline, nameOf, lineText, listsText, longestText, InRange, Request, Stands}
 use Rattle.texts.specs.Numerals.{either}
-use Rattle.parsing.specs.declared.mode.Mode.{Mode}
-use Rattle.parsing.specs.declared.mode.Mode.the-variants.{Unknown, Found}
-use Rattle.parsing.specs.Names.{begins, modeText, tried, modeOf}
+use Rattle.modes.specs.declared.Mode.{Mode}
+use Rattle.modes.specs.declared.Mode.the-variants.{Unknown, Found}
+use Rattle.modes.specs.Names.{begins, modeText, tried, modeOf}
 use Rattle.parsing.specs.Steps.{Got, got, gotOf, three, emptied, threeOf}
 use Rattle.parsing.specs.Complete.{line-read}
 use Rattle.parsing.specs.Sound.{line-sound}

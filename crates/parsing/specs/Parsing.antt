@@ -16,11 +16,11 @@ use Rattle.texts.specs.Laying.{laid}
 use Rattle.texts.specs.Laid.{laid-nowhere, laid-whole}
 use Rattle.texts.specs.Texts.{longestText, Request, Stands}
 use Rattle.parsing.specs.declared.lists.Lists.{Lists}
-use Rattle.parsing.specs.declared.mode.Mode.{Mode}
-use Rattle.parsing.specs.declared.mode.Mode.the-variants.{Unknown, Found}
+use Rattle.modes.specs.declared.Mode.{Mode}
+use Rattle.modes.specs.declared.Mode.the-variants.{Unknown, Found}
 use Rattle.parsing.specs.declared.Parsed.the-variants as parsed
 use Rattle.parsing.specs.Parses.{numbersOf, TextParsed}
-use Rattle.parsing.specs.Names.{modeOf}
+use Rattle.modes.specs.Names.{modeOf}
 use Rattle.parsing.specs.Steps.{Three, three, threeOf, allOf, ListsRead}
 use Rattle.parsing.specs.Decides.{borderIn, nextIn, isFound, known, asked}
 

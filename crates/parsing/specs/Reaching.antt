@@ -2,7 +2,7 @@
 use mathlib.Core.Path.{_≡_, refl, sym, ap, _∙_}
 use mathlib.Core.Bool.{Bool, true, false, cond}
 use mathlib.Core.List.{List, [], _∷_, _++_, append-nil}
-use Prim.Native.Nat.{ℕ, zero, suc, _+_, _-_, _≤_, _<_}
+use Prim.Native.Nat.{ℕ, suc, _+_, _-_, _≤_, _<_}
 use mathlib.Core.Logic.{_⊎_, inl, inr}
 use native.Mathlib.Omega.{arith}
 use lib.ListN.{length, drop, getD, length-append, drop-of-length-le}
@@ -10,10 +10,11 @@ use lib.Ieee.{Float}
 use Rattle.numbers.specs.Tests.{cond-false}
 use Rattle.texts.specs.Laying.{laid}
 use Rattle.texts.specs.Laid.{laid-more}
-use Rattle.parsing.specs.declared.phase.Phase.{Phase}
-use Rattle.parsing.specs.declared.phase.Phase.the-variants.{Fresh, Next, Minus, Number, Closed, Broken}
-use Rattle.parsing.specs.Names.{begins}
-use Rattle.parsing.specs.Steps.{stepped, closedAt, valueOf, separates, endedBy, keptOn, Got, got, lineFrom, gotOf, LineRead}
+use Rattle.phases.specs.declared.Phase.{Phase}
+use Rattle.phases.specs.declared.Phase.the-variants.{Fresh, Next, Minus, Number, Closed, Broken}
+use Rattle.modes.specs.Fronts.{drop-at}
+use Rattle.phases.specs.Phases.{stepped, closedAt, valueOf}
+use Rattle.parsing.specs.Steps.{separates, endedBy, keptOn, Got, got, lineFrom, gotOf, LineRead}
 
 -- so far: the text from `at` on, after the numbers, comes to the same as the whole line
 pub record Reached (text : List ℕ) (from : ℕ) (old out : List Float) (p : Phase) (at count : ℕ) : Type 0 where
@@ -23,12 +24,6 @@ pub record Reached (text : List ℕ) (from : ℕ) (old out : List Float) (p : Ph
   pub put : out ≡ laid numbers old
   pub further : from + count ≤ at
   pub inside : at ≤ length text
-
--- the rest of a text begins with the byte at its place
-pub drop-at : (text : List ℕ) (at d : ℕ) → at < length text → drop at text ≡ getD text at d ∷ drop (suc at) text
-drop-at [] at d h = absurd (omega (arith, h))
-drop-at (c ∷ text) zero d h = refl
-drop-at (c ∷ text) (suc at) d h = drop-at text at d (omega (arith, h))
 
 pub started : (text : List ℕ) (from : ℕ) (old : List Float) → from ≤ length text → Reached text from old old Fresh from 0
 unfolding laid

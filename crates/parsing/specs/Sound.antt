@@ -12,9 +12,10 @@ use Rattle.whole.specs.Floats.{signed, floats}
 use Rattle.texts.specs.Texts.{newline, space, minus, digit, decimal, numeral, othersText, lineText, greatest, InRange}
 use Rattle.texts.specs.Texts.InRange.{none, also}
 use Rattle.texts.specs.Numerals.{either, decimal-one, decimal-more}
-use Rattle.parsing.specs.declared.phase.Phase.{Phase}
-use Rattle.parsing.specs.declared.phase.Phase.the-variants.{Fresh, Next, Minus, Number, Closed, Broken}
-use Rattle.parsing.specs.Steps.{least, firstly, starting, grown, behind, valueOf, numberBy, Got, lineFrom, gotOf}
+use Rattle.phases.specs.declared.Phase.{Phase}
+use Rattle.phases.specs.declared.Phase.the-variants.{Fresh, Next, Minus, Number, Closed, Broken}
+use Rattle.phases.specs.Phases.{least, firstly, starting, grown, behind, valueOf}
+use Rattle.parsing.specs.Steps.{numberBy, Got, lineFrom, gotOf}
 use Rattle.parsing.specs.Values.{Valid, value-whole, signed-size, signText, numeral-signed}
 use Rattle.parsing.specs.Complete.{closed-line}
 

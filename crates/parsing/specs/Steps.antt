@@ -1,64 +1,17 @@
--- What the code does to a line, byte by byte, and what its functions promise. Grammar ties it to the texts. Definitions only.
+-- What the code does to a line and to three, and what its functions promise. Grammar ties it to the texts. Definitions only.
 use mathlib.Core.Path.{_≡_}
 use mathlib.Core.Bool.{Bool, true, false, cond, _&&_, _||_}
 use mathlib.Core.List.{List, [], _∷_, _++_}
-use Prim.Native.Nat.{ℕ, _+_, _*_, _-_, _≤_}
-use lib.Dec.{ltb, eqb}
+use Prim.Native.Nat.{ℕ, _+_, _≤_}
+use lib.Dec.{eqb}
 use lib.ListN.{length, drop, set}
-use lib.IntN.{pos}
-use lib.Ieee.{Float, binary64, ofInt, neg}
+use lib.Ieee.{Float}
 use Rattle.texts.specs.Laying.{laid}
-use Rattle.texts.specs.Texts.{newline, space, minus, greatest}
-use Rattle.parsing.specs.declared.phase.Phase.{Phase}
-use Rattle.parsing.specs.declared.phase.Phase.the-variants.{Fresh, Next, Minus, Number, Closed, Broken}
+use Rattle.texts.specs.Texts.{newline, space}
+use Rattle.phases.specs.declared.Phase.{Phase}
+use Rattle.phases.specs.declared.Phase.the-variants.{Fresh, Next, Minus, Number, Closed, Broken}
+use Rattle.phases.specs.Phases.{stepped, closedAt, valueOf}
 use Rattle.parsing.specs.declared.lists.Lists.{Lists}
-
--- the least first digit
-abbrev pub least : Bool → ℕ
-least true = 49
-least false = 48
-
-abbrev pub firstly : Bool → ℕ → Phase
-firstly negative c = cond (ltb c (least negative)) Broken (cond (ltb 57 c) Broken (Number negative (c - 48)))
-
-abbrev pub starting : ℕ → Phase
-starting c = cond (eqb c minus) Minus (firstly false c)
-
-abbrev pub freshly : ℕ → Phase
-freshly c = cond (eqb c newline) Closed (starting c)
-
--- a digit more
-abbrev pub grown : Bool → ℕ → ℕ → Phase
-grown negative size c =
-    cond (ltb c 48) Broken
-    (cond (ltb 57 c) Broken
-    (cond (eqb size 0) Broken
-    (cond (ltb greatest (size * 10 + (c - 48))) Broken
-    (Number negative (size * 10 + (c - 48))))))
-
-abbrev pub behind : Bool → ℕ → ℕ → Phase
-behind negative size c = cond (eqb c space) Next (cond (eqb c newline) Closed (grown negative size c))
-
-abbrev pub stepped : Phase → ℕ → Phase
-stepped Fresh c = freshly c
-stepped Next c = starting c
-stepped Minus c = firstly true c
-stepped (Number negative size) c = behind negative size c
-stepped Closed c = Broken
-stepped Broken c = Broken
-
-abbrev pub closedAt : Phase → Bool
-closedAt Fresh = false
-closedAt Next = false
-closedAt Minus = false
-closedAt (Number negative size) = false
-closedAt Closed = true
-closedAt Broken = false
-
--- the number itself, which is no minus zero
-abbrev pub valueOf : Bool → ℕ → Float
-valueOf true size = neg (ofInt binary64 (pos size))
-valueOf false size = ofInt binary64 (pos size)
 
 -- the number that a byte ends, if it ends one
 abbrev pub separates : ℕ → Bool

@@ -12,7 +12,7 @@ use lib.Ieee.{Float}
 use Rattle.texts.specs.Texts.{longestText, Request, Stands}
 use Rattle.parsing.specs.declared.Parsed.{Parsed}
 use Rattle.parsing.specs.Parses.{TextParsed}
-use Rattle.parsing.specs.Names.{modeOf}
+use Rattle.modes.specs.Names.{modeOf}
 use Rattle.parsing.specs.Steps.{Three, threeOf}
 use Rattle.parsing.specs.Decides.{Asked, nextIn, isFound, known, asked}
 

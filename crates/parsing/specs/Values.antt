@@ -9,7 +9,7 @@ use lib.IntN.{natAbs}
 use lib.Ieee.{Float, Format, prec, emax, low, binary64, inf, neg, nearest, size, odd, units, round, ofInt}
 use Rattle.whole.specs.Floats.{signed}
 use Rattle.texts.specs.Texts.{minus, decimal, numeral, greatest}
-use Rattle.parsing.specs.Steps.{valueOf}
+use Rattle.phases.specs.Phases.{valueOf}
 
 neg-odd : (d : ℕ) (s : Bool) (q k l : ℕ) → neg (odd d s q k l) ≡ odd d (not s) q k l
 unfolding neg odd

@@ -1,19 +1,17 @@
 // What `bands` reads, from a lent text into a lent buffer.
 pub mod line;
 pub mod lists;
-pub mod mode;
-pub mod phase;
 
 ghost use mathlib.Core.Path.{_≡_};
 ghost use Prim.Native.Nat.{_≤_};
 ghost use lib.ListN.{length};
 ghost use Rattle.texts.specs.Texts.{longestText};
-ghost use Rattle.parsing.specs.Names.{modeOf};
+ghost use Rattle.modes.specs.Names.{modeOf};
 ghost use Rattle.parsing.specs.Parses.{TextParsed};
 use crate::lists::read_lists;
-use crate::mode::Mode;
-use crate::mode::read_mode;
 use border::Border;
+use modes::Mode;
+use modes::read_mode;
 
 pub enum Parsed {
     Request {

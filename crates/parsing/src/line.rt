@@ -3,10 +3,10 @@ ghost use mathlib.Core.Path.{_≡_};
 ghost use Prim.Native.Nat.{_≤_, _+_, _<_};
 ghost use lib.ListN.{length};
 ghost use Rattle.parsing.specs.Steps.{separates, numberBy, endedBy, keptOn, LineRead};
-use crate::phase::Phase;
-use crate::phase::closed;
-use crate::phase::step;
-use crate::phase::value;
+use phases::Phase;
+use phases::closed;
+use phases::step;
+use phases::value;
 
 // How the line ended, the place behind it, and how many numbers it has.
 pub struct Line {

@@ -8,7 +8,7 @@ use lib.ListN.{length}
 use lib.Ieee.{Float}
 use Rattle.numbers.specs.Words.{longest, whenDone}
 use Rattle.texts.specs.Texts.{newline, decimal}
-use Rattle.texts.specs.Laying.{headed, laid}
+use Rattle.texts.specs.Laying.{headed}
 use Rattle.printing.specs.declared.Printing.{Printing}
 use Rattle.printing.specs.declared.Printing.the-variants.{Done, InputSize, Limit}
 
@@ -39,8 +39,3 @@ pub record Printed (over : Bool) (text out : List ℕ) (r : Printing) (out′ : 
 -- a word that has its space, a number, and the end of the line
 abbrev pub countText : List ℕ → ℕ → List ℕ
 countText word n = word ++ (decimal n ++ (newline ∷ []))
-
--- what the work behind it promises, of any buffer: the text as far as it reaches, and the text's length
-pub record Lays (text out : List ℕ) (r : ℕ) (out′ : List ℕ) : Type 0 where
-  pub size : r ≡ length text
-  pub laying : out′ ≡ laid text out

@@ -11,8 +11,9 @@ use lib.Ieee.{Float}
 use Rattle.numbers.specs.Words.{longest}
 use Rattle.texts.specs.Laying.{laid}
 use Rattle.texts.specs.Laid.{laid-nowhere, laid-whole}
+use Rattle.laying.specs.Lays.{Lays}
 use Rattle.printing.specs.declared.Printing.the-variants.{Done, InputSize, Limit}
-use Rattle.printing.specs.Printings.{tooLong, Printed, Lays}
+use Rattle.printing.specs.Printings.{tooLong, Printed}
 
 -- ---- bands that are too long, or not
 module _ (approx detail : List Float) where

@@ -1,6 +1,4 @@
 // What the program prints, onto a lent buffer: two bands, or a refusal.
-pub mod digits;
-pub mod laying;
 pub mod work;
 
 ghost use mathlib.Core.Bool.{false};

@@ -4,10 +4,11 @@ ghost use Prim.Native.Nat.{_≤_};
 ghost use lib.ListN.{length};
 ghost use Rattle.numbers.specs.Words.{longest};
 ghost use Rattle.texts.specs.Prints.{floatsText, bandsText};
-ghost use Rattle.printing.specs.Printings.{countText, Lays};
-use crate::digits::bits;
-use crate::digits::decimal;
-use crate::laying::bytes;
+ghost use Rattle.laying.specs.Lays.{Lays};
+ghost use Rattle.printing.specs.Printings.{countText};
+use laying::bytes;
+use laying::digits::bits;
+use laying::digits::decimal;
 use numbers::least;
 
 // Floats, a line each.

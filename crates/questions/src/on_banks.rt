@@ -6,10 +6,9 @@ use bank::Bank;
 use bank::making::bank;
 use border::pad::copy_to;
 use exact::there_and_back;
-use packed::parts;
+use level_telling::told;
 use restoring::restoring_answer;
 use telling::borders::border_of;
-use telling::told;
 
 fn made(low: &[f64], high: &[f64], border: usize) -> Bank {
     let made = bank(low, high, border_of(border));
@@ -31,11 +30,14 @@ fn level_details(words: &[u64], packed: &[f64], part: &mut [f64], carried: &mut 
     let f = scalar(words, 2);
     let levels = scalar(words, 3);
     let level = scalar(words, 4);
-    if !laid(parts::level_details(packed, n, f, levels, level), part) {
+    if !laid(
+        level_parts::level_details(packed, n, f, levels, level),
+        part,
+    ) {
         return crate::NO_CALL;
     }
     handing_told(
-        parts::handing_answer(n, f, levels, packed.len(), level),
+        level_parts::handing_answer(n, f, levels, packed.len(), level),
         carried,
     )
 }

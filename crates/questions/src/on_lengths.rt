@@ -7,9 +7,9 @@ use convolution::convolution_answer;
 use convolution::pads::split;
 use exact::Back;
 use exact::back_answer;
+use level_parts::Handing;
+use level_parts::handing_answer;
 use levels::levels_answer;
-use packed::parts::Handing;
-use packed::parts::handing_answer;
 use plane_analysis::plane_analysis_answer;
 use plane_synthesis::plane_synthesis_answer;
 use plane_telling::comparison_told;
@@ -17,21 +17,20 @@ use plane_telling::plane_told;
 use restoring::restoring_answer;
 use synthesis::synthesis_answer;
 use telling::borders::border_of;
-use telling::told;
 
 pub fn back_told(answer: Back, carried: &mut [usize; 2]) -> u64 {
     match answer {
         Back::Done => 0,
-        Back::Analysis(refusal) => told::analysis(refusal, carried),
-        Back::Synthesis(refusal) => told::synthesis(refusal, carried),
+        Back::Analysis(refusal) => line_telling::told::analysis(refusal, carried),
+        Back::Synthesis(refusal) => line_telling::told::synthesis(refusal, carried),
     }
 }
 
 pub fn handing_told(answer: Handing, carried: &mut [usize; 2]) -> u64 {
     match answer {
         Handing::Done => 0,
-        Handing::NoSuchLevel(level) => told::one(22, level, carried),
-        Handing::Refused(refusal) => told::levels(refusal, carried),
+        Handing::NoSuchLevel(level) => telling::told::one(22, level, carried),
+        Handing::Refused(refusal) => level_telling::told::levels(refusal, carried),
     }
 }
 
@@ -46,14 +45,14 @@ pub fn ask(words: &[u64], carried: &mut [usize; 2]) -> u64 {
     let h = scalar(words, 8);
     let i = scalar(words, 9);
     match scalar(words, 0) {
-        25 => told::analysis(analysis_answer(a, b, c, d, e), carried),
-        26 => told::synthesis(synthesis_answer(a, b, c, d), carried),
-        27 => told::convolution(
+        25 => line_telling::told::analysis(analysis_answer(a, b, c, d, e), carried),
+        26 => line_telling::told::synthesis(synthesis_answer(a, b, c, d), carried),
+        27 => line_telling::told::convolution(
             convolution_answer(border_of(a), b, c, d, split(signed(words, 5)), f),
             carried,
         ),
-        28 => told::levels(levels_answer(a, b, c, d, e), carried),
-        29 => told::levels(restoring_answer(a, b, c, d, e, f), carried),
+        28 => level_telling::told::levels(levels_answer(a, b, c, d, e), carried),
+        29 => level_telling::told::levels(restoring_answer(a, b, c, d, e, f), carried),
         30 => handing_told(handing_answer(a, b, c, d, e), carried),
         31 => plane_told(plane_analysis_answer(a, b, c, d, e, f, g, h, i), carried),
         32 => plane_told(plane_synthesis_answer(a, b, c, d, e, f, g, h, i), carried),

@@ -16,10 +16,11 @@ use Rattle.numbers.specs.Words.{at, tab}
 use Rattle.numbers.specs.Write.{length-tab, getD-tab}
 use Rattle.numbers.specs.Places.{getD-part, lent-length, lent-before, lent-in, lent-behind, tab-same}
 use Rattle.numbers.specs.Tests.{cond-true, cond-false}
-use Rattle.synthesis.specs.Sums.{meets, onto, joined}
+use Rattle.spreading.specs.Pairs.{onto, spreadAt}
+use Rattle.synthesis.specs.Sums.{meets, joined}
 use Rattle.synthesis.specs.Meets.{meets-yes, meets-before, meets-past}
 use Rattle.synthesis.specs.Lines.{synthesised}
-use Rattle.synthesis.specs.Works.{joinedFrom, joinedPairs, spreadAt}
+use Rattle.synthesis.specs.Works.{joinedFrom, joinedPairs}
 use native.Mathlib.Nat.{add-suc, add-zero}
 
 module _ (f : Format) (F : ℕ) (low high a d : ℕ → Float) (P : ℕ) where

@@ -3,15 +3,12 @@
 use Prim.Native.Nat.{ℕ, zero, suc, _+_, _-_, _*_}
 use mathlib.Core.Bool.{Bool, cond, _&&_}
 use lib.Dec.{leb, ltb}
-use lib.Ieee.{Float, Format, add, mul}
+use lib.Ieee.{Float, Format}
+use Rattle.spreading.specs.Pairs.{onto}
 
 -- pair i reaches padded place P by its tap P - 2 i, if that lies in 0 .. F - 1
 abbrev pub meets : ℕ → ℕ → ℕ → Bool
 meets F P i = leb (2 * i) P && ltb P (2 * i + F)
-
--- adds tap j of one pair onto z: first high tap times detail, then low tap times approximation
-abbrev pub onto : Format → (ℕ → Float) → (ℕ → Float) → ℕ → Float → Float → Float → Float
-onto f low high j a d z = add f (add f z (mul f (high j) d)) (mul f (low j) a)
 
 -- what padded place P holds after n pairs, rising, onto what it held
 unfoldable pub joined : Format → ℕ → (ℕ → Float) → (ℕ → Float) → (ℕ → Float) → (ℕ → Float) → ℕ → Float → ℕ → Float

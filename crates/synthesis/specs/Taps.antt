@@ -10,7 +10,8 @@ use Rattle.numbers.specs.Words.{at, placed}
 use Rattle.numbers.specs.Write.{length-written}
 use Rattle.numbers.specs.Places.{tab-same, placed-front, part-ext, getD-written-in}
 use Rattle.numbers.specs.Tests.{cond-same}
-use Rattle.synthesis.specs.Sums.{meets, onto, joined}
+use Rattle.spreading.specs.Pairs.{onto}
+use Rattle.synthesis.specs.Sums.{meets, joined}
 use Rattle.synthesis.specs.Meets.{reached}
 use Rattle.synthesis.specs.Lines.{synthesised}
 

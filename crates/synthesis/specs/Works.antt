@@ -7,11 +7,8 @@ use lib.Dec.{leb}
 use lib.ListN.{length}
 use lib.Ieee.{Float, Format}
 use Rattle.numbers.specs.Words.{longest, at, tab}
-use Rattle.synthesis.specs.Sums.{meets, onto}
-
--- place j of a part after one pair, whose tap `from` meets the part's first place
-abbrev pub spreadAt : Format → List Float → List Float → ℕ → Float → Float → List Float → ℕ → Float
-spreadAt f low high from a d part j = onto f (at low) (at high) (from + j) a d (at part j)
+use Rattle.spreading.specs.Pairs.{onto}
+use Rattle.synthesis.specs.Sums.{meets}
 
 -- bands that are joined into an output of the ruled length
 pub record Joinable (f approx detail out : ℕ) : Type 0 where

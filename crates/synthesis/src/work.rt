@@ -1,27 +1,16 @@
 // Both bands joined into an output, pair after pair.
 ghost use mathlib.Core.Path.{_≡_};
-ghost use Prim.Native.Nat.{_+_, _-_, _≤_};
+ghost use Prim.Native.Nat.{_≤_};
 ghost use lib.ListN.{length, take};
 ghost use lib.Ieee.{binary64};
-ghost use Rattle.numbers.specs.Words.{cleared, tab};
+ghost use Rattle.numbers.specs.Words.{cleared};
 ghost use Rattle.synthesis.specs.Lines.{synthesised};
-ghost use Rattle.synthesis.specs.Works.{spreadAt, Joinable, PairsOf, InnerPairs, joinedPairs};
+ghost use Rattle.synthesis.specs.Works.{Joinable, PairsOf, InnerPairs, joinedPairs};
 use border::pad::copy_line;
 use numbers::least;
 use numbers::less;
 use numbers::most;
-
-// One pair onto a part of the output, tap `from` onto its first place.
-pub fn spread(low: &[f64; 64], high: &[f64; 64], from: usize, a: f64, d: f64, part: &mut [f64])
-    requires { ⌜ from + length (now part) ≤ 64 ⌝ }
-    ensures { λ _. ⌜ now (part .exit) ≡ tab (spreadAt binary64 (now (low .entry)) (now (high .entry)) from a d (now (part .entry))) (length (now (part .entry))) ⌝ }
-{
-    let mut j = 0usize;
-    while j < part.len() {
-        part[j] = part[j] + high[from + j] * d + low[from + j] * a;
-        j += 1;
-    }
-}
+use spreading::spread;
 
 // The pairs from `first` to `end`, each onto the part of the output that it reaches.
 fn edge(

@@ -6,14 +6,11 @@ use Prim.Native.Nat.{ℕ, _<_}
 use native.Mathlib.Omega.{arith}
 use borrow.Author.Tests.{ne-eqb}
 use lib.Dec.{lit<}
-use lib.Ieee.{Float}
 use Rattle.numbers.specs.Words.{whenDone}
 use Rattle.numbers.specs.Tests.{cond-true, cond-false, kept}
 use Rattle.border.specs.declared.Border.the-variants.{Reflect101}
-use Rattle.packed.specs.declared.parts.Reading.{Reading}
 use Rattle.telling.specs.Told.{Told, carriedFrom}
 use Rattle.telling.specs.Borders.{borderOf, noBorder, numberUnder, valuesUnder}
-use Rattle.telling.specs.Readings.{ReadingTold}
 
 -- what is told holds by any names of the number and of the values
 pub retold : {number number′ : ℕ} {values values′ words words′ : List ℕ} {r : ℕ} → number ≡ number′ → values ≡ values′
@@ -24,10 +21,6 @@ retold {words = words} e q t = record { given = t .given ∙ e; carried = t .car
 pub told-as : {A : Type 0} (number : A → ℕ) (values : A → List ℕ) {a b : A} {words words′ : List ℕ} {r : ℕ}
     → a ≡ b → Told (number b) (values b) words r words′ → Told (number a) (values a) words r words′
 told-as number values e t = retold (ap number (sym e)) (ap values (sym e)) t
-
-pub reading-as : {a b : Reading} {value value′ : List Float} {words words′ : List ℕ} {r : ℕ}
-    → a ≡ b → ReadingTold b value words r value′ words′ → ReadingTold a value words r value′ words′
-reading-as e t = rw e t
 
 -- a number above 3 names the last border
 pub border-rest : (k : ℕ) → (k ≡ 0 → ⊥) → (k ≡ 1 → ⊥) → (k ≡ 2 → ⊥) → (k ≡ 3 → ⊥) → Reflect101 ≡ borderOf k

@@ -1,3 +1,3 @@
-// How an answer is told to C: document 01's number, and what it carries in lent words; and borders by number.
+// How anything is told to C: a number, and what it carries in lent words; and borders by number.
 pub mod borders;
 pub mod told;

@@ -7,7 +7,8 @@ use Rattle.numbers.specs.Words.{tab}
 use Rattle.border.specs.declared.Border.the-variants.{Clamp, Wrap, Zeros}
 use Rattle.border.specs.Rule.{source, padded}
 use Rattle.bank.specs.Lengths.{badTaps}
-use Rattle.analysis.specs.Sums.{dot, analysed}
+use Rattle.summing.specs.Sums.{dot}
+use Rattle.analysis.specs.Sums.{analysed}
 use Rattle.analysis.specs.Lines.{band}
 use Rattle.texts.specs.Texts.{digitsOf, lineText, textOf, Request}
 use Rattle.texts.specs.Prints.{hexOf, refusalText}

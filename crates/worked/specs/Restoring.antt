@@ -14,7 +14,8 @@ use Rattle.border.specs.declared.Border.{Border}
 use Rattle.border.specs.declared.Border.the-variants.{Wrap}
 use Rattle.border.specs.Rule.{source, padded}
 use Rattle.bank.specs.Lengths.{badTaps}
-use Rattle.analysis.specs.Sums.{dot, analysed}
+use Rattle.summing.specs.Sums.{dot}
+use Rattle.analysis.specs.Sums.{analysed}
 use Rattle.analysis.specs.Lines.{band}
 use Rattle.synthesis.specs.Sums.{joined}
 use Rattle.synthesis.specs.Lines.{synthesised}

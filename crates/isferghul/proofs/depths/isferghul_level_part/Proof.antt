@@ -1,6 +1,6 @@
 -- `isferghul_level_part` meets its contract: it tells what the entry answers.
 use mathlib.Core.Path.{sym}
-use Rattle.packed.specs.Answers.{partNumber, partValues}
+use Rattle.level_sizes.specs.Sizes.{partNumber, partValues}
 use Rattle.telling.specs.Telling.{told-as}
 use borrow.Author.Needs.{needs}
 use Rattle.isferghul.proofs.depths.isferghul_level_part.Statement.{statement}

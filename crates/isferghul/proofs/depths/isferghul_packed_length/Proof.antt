@@ -1,6 +1,6 @@
 -- `isferghul_packed_length` meets its contract: it tells what the entry answers.
 use mathlib.Core.Path.{sym}
-use Rattle.packed.specs.Answers.{sizeNumber, sizeValues}
+use Rattle.level_sizes.specs.Sizes.{sizeNumber, sizeValues}
 use Rattle.telling.specs.Telling.{told-as}
 use borrow.Author.Needs.{needs}
 use Rattle.isferghul.proofs.depths.isferghul_packed_length.Statement.{statement}

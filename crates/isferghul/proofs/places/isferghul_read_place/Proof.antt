@@ -1,6 +1,6 @@
 -- `isferghul_read_place` meets its contract: it tells what the entry answers.
 use mathlib.Core.Path.{sym}
-use Rattle.telling.specs.Telling.{reading-as}
+use Rattle.level_telling.specs.Telling.{reading-as}
 use borrow.Author.Needs.{needs}
 use Rattle.isferghul.proofs.places.isferghul_read_place.Statement.{statement}
 use Rattle.isferghul.proofs.places.isferghul_read_place.Tie as tie

@@ -2,7 +2,7 @@
 use native.Mathlib.Omega.{arith}
 use denote.Ref.{now}
 use lib.ListN.{length}
-use Rattle.printing.specs.Behind.{behind}
+use Rattle.laying.specs.Behind.{behind}
 use Rattle.printing.specs.Sizes.{length-count, length-floats}
 use borrow.Author.Needs.{needs}
 use Rattle.printing.proofs.work.band.Statement.{statement}

@@ -4,7 +4,7 @@ use native.Mathlib.Omega.{arith}
 use denote.Ref.{now}
 use Rattle.texts.specs.Texts.{space}
 use Rattle.texts.specs.Prints.{approxWord, detailWord}
-use Rattle.printing.specs.Behind.{behind}
+use Rattle.laying.specs.Behind.{behind}
 use Rattle.printing.specs.Sizes.{length-band}
 use borrow.Author.Needs.{needs}
 use Rattle.printing.proofs.work.bands.Statement.{statement}

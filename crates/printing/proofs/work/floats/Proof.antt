@@ -8,8 +8,8 @@ use denote.Ref.{now}
 use borrow.Rule.Slice.PartMut.{putMid}
 use Rattle.texts.specs.Laying.{laid}
 use Rattle.texts.specs.Prints.{floatsText}
-use Rattle.printing.specs.Printings.{Lays}
-use Rattle.printing.specs.Behind.{behind, lays-as, length-lays}
+use Rattle.laying.specs.Lays.{Lays}
+use Rattle.laying.specs.Behind.{behind, lays-as, length-lays}
 use Rattle.printing.specs.Sizes.{length-floats, floats-more}
 use borrow.Author.Needs.{needs}
 use Rattle.printing.proofs.work.floats.Statement.{statement}

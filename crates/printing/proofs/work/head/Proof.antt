@@ -1,7 +1,7 @@
 -- `printing::work::head` meets its contract: the number's line is laid behind the word.
 use native.Mathlib.Omega.{arith}
 use borrow.Author.Needs.{needs}
-use Rattle.printing.specs.Behind.{behind}
+use Rattle.laying.specs.Behind.{behind}
 use Rattle.printing.specs.Sizes.{length-line}
 use Rattle.printing.proofs.work.head.Statement.{statement}
 use Rattle.printing.proofs.work.head.Tie as tie

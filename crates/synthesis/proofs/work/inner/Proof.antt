@@ -6,7 +6,7 @@ use Prim.Native.Nat.{_*_, _+_, _-_, _<_, _≤_, ℕ}
 use Rattle.numbers.specs.Tests.{kept}
 use Rattle.numbers.specs.Words.{at, tab}
 use Rattle.synthesis.specs.Joins.{Joining, joining-all, joining-at, joining-next, joining-none}
-use Rattle.synthesis.specs.Works.{spreadAt}
+use Rattle.spreading.specs.Pairs.{spreadAt}
 use borrow.Rule.Slice.PartMut.{mid-len, putMid}
 use denote.Ref.{now}
 use lib.Ieee.{Float, binary64}

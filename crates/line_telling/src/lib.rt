@@ -1,0 +1,2 @@
+// Answers about one line told to C, each by its number and what it carries.
+pub mod told;

@@ -1,0 +1,2 @@
+-- One pair onto the places that it reaches. Definitions: Pairs.
+pub mod Pairs

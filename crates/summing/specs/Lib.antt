@@ -1,0 +1,3 @@
+-- Both sums of one place. Definitions: Sums. Laws: Turns.
+pub mod Sums
+pub mod Turns
