@@ -1,30 +1,24 @@
 """What the list of document 01's answers asks: its examples, the ends of its domain, every refusal and pairs of them, special floats, dirty buffers.
 
-`questions()` gives (name, case, answer, what every lent list then holds), answered by judge/rules.py and judge/sums.py; the document's own numbers, and
-some worked by hand, are asserted here. A case's numbers are floats; a list that is lent begins as sevens, or eights, unless it says otherwise."""
-import array
-import struct
-
+`ASKED` fills with (name, case, answer, what every lent list then holds), answered by judge/rules.py and judge/sums.py; the document's own numbers, and
+some worked by hand, are asserted here. A list that is lent begins as sevens, or eights, unless it says otherwise. Levels and planes ask in files of their own."""
 import rules
 import sums
-from protocol import *
-from protocol import BORDERS, Case, one_nan
-from rules import LIMIT, MOST_OF_PLANE
+from protocol import (ANALYSE, ANALYSE_LEVELS, ANALYSE_PLANE, ANALYSIS_ANSWER, ANALYSIS_SCRATCH, BACK_ANSWER, BAND_LENGTH, bits_of, BORDERS, Case, CONVOLUTION_ANSWER,
+                      CONVOLUTION_SCRATCH, CONVOLVE, LINE_LENGTH, MIRROR, one_nan, OPEN, RESTORE_LEVELS, SYNTHESIS_ANSWER, SYNTHESISE,
+                      SYNTHESISE_PLANE, THERE_AND_BACK)
+from rules import LIMIT
 
 INF, NAN, HUGE = float('inf'), float('nan'), 2**64 - 1
 CLAMP, WRAP, REFLECT, ZEROS, REFLECT101 = EVERY = range(len(BORDERS))
 ASKED = []
 
 
-def words(numbers):
-    return array.array('Q', struct.pack('<%dd' % len(numbers), *numbers))
-
-
 def ask(name, op, scalars=(), *lists):
-    case = Case(op, tuple(scalars), [words(numbers) for numbers in lists])
+    case = Case(op, tuple(scalars), [bits_of(numbers) for numbers in lists])
     answer = rules.answer(case)
     left = sums.after(op, scalars, lists) if answer[0] == 0 else [lists[i] for i in case.shape().lent]
-    held = [[None if x is None else one_nan(words([x])[0]) for x in numbers] for numbers in left]
+    held = [[OPEN if x is OPEN else one_nan(bits(x)) for x in numbers] for numbers in left]
     given = [[one_nan(word) for word in case.lists[i]] for i in case.shape().lent]
     # what is as it was is told with the bits that it had
     held = [list(case.lists[i]) if now == was else now for i, now, was in zip(case.shape().lent, held, given)]
@@ -37,7 +31,7 @@ def eights(n): return [8.0] * n
 def ones(n): return [1.0] * n
 def counted(n): return [float(i + 1) for i in range(n)]
 def times(k, numbers): return [k * x for x in numbers]
-def bits(x): return words([x])[0]
+def bits(x): return bits_of([x])[0]
 
 
 def every(ops, expected, *scalars):

@@ -1,12 +1,10 @@
 """Document 01's examples P1 to P12 as questions, out of crates/worked/specs/Examples.antt, where they are proved.
 
 It knows no rule of document 01: questions and answers are that list's. What an example does not tell, such as a scratch, is lent long enough and left open."""
-import array
 import pathlib
 import re
-import struct
 
-from protocol import (ANALYSE, ANALYSE_PLANE, ANALYSIS_SCRATCH, BAND_LENGTH, BORDERS, Case, CONVOLVE, LEVEL_PART, LINE_LENGTH, PACKED_LENGTH, SYNTHESISE)
+from protocol import ANALYSE, ANALYSE_PLANE, ANALYSIS_SCRATCH, BAND_LENGTH, bits_of, BORDERS, Case, CONVOLVE, LEVEL_PART, LINE_LENGTH, OPEN, PACKED_LENGTH, SYNTHESISE
 
 LIST = pathlib.Path(__file__).resolve().parent.parent / 'crates/worked/specs/Examples.antt'
 ROOM = 64
@@ -21,7 +19,8 @@ def items(tokens):
         found.append(application(tokens))
     if len(found) == 1:
         return found[0]
-    assert found.pop() == [], 'a list ends in []'
+    last = found.pop()
+    assert last == [], 'a list ends in []'
     return found
 
 
@@ -35,8 +34,8 @@ def application(tokens):
 def atom(tokens):
     token = tokens.pop(0)
     if token == '(':
-        found = items(tokens)
-        assert tokens.pop(0) == ')'
+        found, closing = items(tokens), tokens.pop(0)
+        assert closing == ')'
         return found
     if token in '+-':
         return float(token + tokens.pop(0))
@@ -53,7 +52,7 @@ def examples():
 
 # --- each as calls of the exports: the operation, its scalars, its lists, and what a done call leaves in the lent ones
 
-SEVENS, OPEN = [7.0] * ROOM, [None] * ROOM
+SEVENS, ANYTHING = [7.0] * ROOM, [OPEN] * ROOM
 
 
 def sevens(numbers):
@@ -98,11 +97,11 @@ def edges_calls(border, p, line, before, behind):
 
 
 def bands_calls(border, low, high, line, approx, detail):
-    yield ANALYSE, (border,), (low, high, line, sevens(approx), sevens(detail), SEVENS), (), (approx, detail, OPEN)
+    yield ANALYSE, (border,), (low, high, line, sevens(approx), sevens(detail), SEVENS), (), (approx, detail, ANYTHING)
 
 
 def approx_calls(border, low, line, approx):
-    yield ANALYSE, (border,), (low, low, line, sevens(approx), sevens(approx), SEVENS), (), (approx, approx, OPEN)
+    yield ANALYSE, (border,), (low, low, line, sevens(approx), sevens(approx), SEVENS), (), (approx, approx, ANYTHING)
 
 
 def restore_calls(low, high, approx, detail, line):
@@ -111,16 +110,16 @@ def restore_calls(low, high, approx, detail, line):
 
 def factor_calls(low, numbers):
     # the taps as a line and as a kernel that begins where the line does: its first sum is that of the squares
-    yield CONVOLVE, (BORDERS.index('Zeros'), len(low) // 2 - 1), (low, sevens(low), SEVENS, low), (), (numbers + [None] * (len(low) - 1), OPEN)
+    yield CONVOLVE, (BORDERS.index('Zeros'), len(low) // 2 - 1), (low, sevens(low), SEVENS, low), (), (numbers + [OPEN] * (len(low) - 1), ANYTHING)
 
 
 def convolve_calls(border, line, kernel, centre, out):
-    yield CONVOLVE, (border, int(centre)), (line, sevens(out), SEVENS, kernel), (), (out, OPEN)
+    yield CONVOLVE, (border, int(centre)), (line, sevens(out), SEVENS, kernel), (), (out, ANYTHING)
 
 
 def plane_calls(border, width, height, low, high, plane, ll):
-    others = [None] * len(ll)
-    yield ANALYSE_PLANE, (border, width, height), (low, high, plane, *[sevens(ll)] * 4, SEVENS), (), (ll, others, others, others, OPEN)
+    others = [OPEN] * len(ll)
+    yield ANALYSE_PLANE, (border, width, height), (low, high, plane, *[sevens(ll)] * 4, SEVENS), (), (ll, others, others, others, ANYTHING)
 
 
 def refused(kind, *told):
@@ -138,12 +137,8 @@ def refused(kind, *told):
 
 # --- as questions; one that names no border is asked under every border
 
-def words(numbers):
-    return array.array('Q', struct.pack('<%dd' % len(numbers), *numbers))
-
-
 def held(numbers):
-    return [None if x is None else words([x])[0] for x in numbers]
+    return [OPEN if x is OPEN else bits_of([x])[0] for x in numbers]
 
 
 def under_borders(asked):
@@ -158,9 +153,9 @@ def questions():
             name = 'P%d %s' % (number, told[0])
             if given[0] == 'Refused':
                 for op, scalars, lists in refused(*told):
-                    case = Case(op, scalars, [words(numbers) for numbers in lists])
+                    case = Case(op, scalars, [bits_of(numbers) for numbers in lists])
                     yield name, case, (given[1], *given[2]), [list(case.lists[i]) for i in case.shape().lent]
             else:
                 for op, scalars, lists, values, after in calls(*told, *given[1:]):
-                    case = Case(op, scalars, [words(numbers) for numbers in lists])
+                    case = Case(op, scalars, [bits_of(numbers) for numbers in lists])
                     yield name, case, (0, *values), [held(numbers) for numbers in after]

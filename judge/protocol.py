@@ -136,6 +136,11 @@ def words_of(data):
     return array.array('Q', data)
 
 
+def bits_of(numbers):
+    """Floats by their bits."""
+    return words_of(struct.pack('<%dd' % len(numbers), *numbers))
+
+
 def in_hex(words):
     return ' '.join('%016X' % word for word in words)
 

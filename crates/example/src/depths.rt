@@ -10,13 +10,8 @@ use levels::analyse_levels;
 use packed::Levels;
 use restoring::restored_line;
 
-fn sums() -> Bank {
-    let made = bank(&[1.0, 1.0], &[1.0, -1.0], Border::Wrap);
-    made.bank
-}
-
-fn halves() -> Bank {
-    let made = bank(&[0.5, 0.5], &[0.5, -0.5], Border::Wrap);
+fn two(tap: f64) -> Bank {
+    let made = bank(&[tap, tap], &[tap, -tap], Border::Wrap);
     made.bank
 }
 
@@ -45,7 +40,7 @@ pub fn parts() {
     let mut packed = [0.0f64; 7];
     let mut scratch = [0.0f64; 12];
     let line = [10.0, 20.0, 30.0, 40.0, 60.0];
-    let answer = analyse_levels(sums(), &line, 2, &mut packed, &mut scratch);
+    let answer = analyse_levels(two(1.0), &line, 2, &mut packed, &mut scratch);
     let Levels::Done = answer else {
         return;
     };
@@ -54,7 +49,7 @@ pub fn parts() {
 
 // The line is the front of the buffer that holds it.
 fn joined(packed: &[f64], levels: usize, first: &mut [f64], second: &mut [f64]) {
-    let line = restored_line(sums(), packed, 5, levels, first, second);
+    let line = restored_line(two(1.0), packed, 5, levels, first, second);
     show::floats(b"restored", line);
     show::floats(b"first", first);
     show::floats(b"second", second);
@@ -64,7 +59,7 @@ fn joined(packed: &[f64], levels: usize, first: &mut [f64], second: &mut [f64]) 
 fn back(levels: usize, packed: &mut [f64]) {
     let line = [3.0, -1.0, 4.0, -1.0, 5.0];
     let mut scratch = [0.0f64; 12];
-    let answer = analyse_levels(halves(), &line, levels, packed, &mut scratch);
+    let answer = analyse_levels(two(0.5), &line, levels, packed, &mut scratch);
     let Levels::Done = answer else {
         return;
     };

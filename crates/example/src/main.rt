@@ -12,5 +12,4 @@ fn main() {
     depths::parts();
     depths::restored();
     back::returned();
-    back::refused();
 }

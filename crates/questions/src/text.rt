@@ -119,14 +119,13 @@ fn put_word(text: &[u8], at: usize, words: &mut [u64; 8192], count: usize) -> Sp
 {
     let read = word(text, at);
     let often = times(text, read.next);
-    let end = often.next;
-    let next = end + stands(text, end, b' ');
-    if next == at {
-        return Span { count, next };
+    if read.next == at || often.value == 0 {
+        return Span { count, next: at };
     }
+    let end = often.next;
     Span {
         count: put(words, count, read.value, often.value),
-        next,
+        next: end + stands(text, end, b' '),
     }
 }
 
@@ -167,7 +166,8 @@ pub fn line(text: &[u8], from: usize, words: &mut [u64; 8192]) -> Span
         if text.len() <= end {
             return unreadable;
         }
-        if 1025 < count - part {
+        // A part that is too long, or words that may have found no room.
+        if 1025 < count - part || 8192 <= count {
             return unreadable;
         }
         put(words, part, (count - part - 1) as u64, 1);
