@@ -2,10 +2,10 @@
 use crate::floats::list;
 use crate::floats::same;
 use crate::on_banks;
-use crate::on_lengths;
 use crate::on_levels;
 use crate::on_lines;
 use crate::on_planes;
+use crate::on_sizes;
 use crate::parts::count;
 use crate::parts::item;
 use crate::parts::part;
@@ -30,6 +30,17 @@ fn told(words: &[u64], number: u64, carried: &[usize; 2]) -> bool {
         && value(words, at, 2) == carried[1]
 }
 
+// Which file makes the call: those with lists first.
+fn group(op: usize) -> u8 {
+    match op {
+        1 | 2 | 3 | 8 => 1,
+        14..=16 => 2,
+        21..=23 => 3,
+        35..=37 => 4,
+        _ => 5,
+    }
+}
+
 fn ask(
     words: &[u64],
     a: &mut [f64],
@@ -42,12 +53,12 @@ fn ask(
     h: &mut [f64],
     carried: &mut [usize; 2],
 ) -> u64 {
-    match scalar(words, 0) {
-        1..=8 => on_lines::ask(words, a, b, c, d, e, f, carried),
-        9..=16 => on_levels::ask(words, a, b, c, d, e, carried),
-        17..=23 => on_planes::ask(words, a, b, c, d, e, f, g, h, carried),
-        25..=34 => on_lengths::ask(words, carried),
-        _ => on_banks::ask(words, a, b, c, d, e, f, g, carried),
+    match group(scalar(words, 0)) {
+        1 => on_lines::ask(words, a, b, c, d, e, f, carried),
+        2 => on_levels::ask(words, a, b, c, d, e, carried),
+        3 => on_planes::ask(words, a, b, c, d, e, f, g, h, carried),
+        4 => on_banks::ask(words, a, b, c, d, e, f, g, carried),
+        _ => on_sizes::ask(words, carried),
     }
 }
 

@@ -6,6 +6,7 @@ mod on_lengths;
 mod on_levels;
 mod on_lines;
 mod on_planes;
+mod on_sizes;
 mod parts;
 pub mod saying;
 mod text;

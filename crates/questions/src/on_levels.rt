@@ -1,6 +1,5 @@
-// Calls on several levels, by their operation.
+// Calls that lend lists of several levels, by their operation.
 use crate::parts::scalar;
-use isferghul::depths;
 use isferghul::packing;
 use isferghul::places;
 
@@ -35,13 +34,7 @@ pub fn ask(
 ) -> u64 {
     let first = scalar(words, 1);
     let second = scalar(words, 2);
-    let third = scalar(words, 3);
     match scalar(words, 0) {
-        9 => depths::isferghul_packed_length(first, second, third, told),
-        10 => depths::isferghul_levels_scratch(first, second, third, told),
-        11 => depths::isferghul_restoring_length(first, second, third, told),
-        12 => depths::isferghul_most_levels(first, second, told),
-        13 => depths::isferghul_level_part(first, second, third, scalar(words, 4), told),
         14 => packing::isferghul_analyse_levels(first, a, b, c, second, d, e, told),
         15 => packing::isferghul_restore_levels(a, b, c, first, second, d, e, told),
         16 => read_place(words, a, b, told),

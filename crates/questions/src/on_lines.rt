@@ -1,8 +1,7 @@
-// Calls on one line, by their operation.
+// Calls that lend lists of one line, by their operation.
 use crate::parts::scalar;
 use crate::parts::signed;
 use isferghul::lines;
-use isferghul::sizes;
 use isferghul::taps;
 
 pub fn ask(
@@ -15,16 +14,11 @@ pub fn ask(
     f: &mut [f64],
     told: &mut [usize; 2],
 ) -> u64 {
-    let first = scalar(words, 1);
-    let second = scalar(words, 2);
+    let border = scalar(words, 1);
     match scalar(words, 0) {
-        1 => lines::isferghul_analyse(first, a, b, c, d, e, f, told),
+        1 => lines::isferghul_analyse(border, a, b, c, d, e, f, told),
         2 => lines::isferghul_synthesise(a, b, c, d, e, told),
-        3 => lines::isferghul_convolve(first, a, b, c, d, signed(words, 2), told),
-        4 => sizes::isferghul_band_length(first, second, told),
-        5 => sizes::isferghul_line_length(first, second, told),
-        6 => sizes::isferghul_analysis_scratch(first, second, told),
-        7 => sizes::isferghul_convolution_scratch(first, second, signed(words, 3), told),
+        3 => lines::isferghul_convolve(border, a, b, c, d, signed(words, 2), told),
         8 => taps::isferghul_mirror(a, b),
         _ => crate::NO_CALL,
     }

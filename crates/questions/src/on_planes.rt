@@ -1,4 +1,4 @@
-// Calls on planes, by their operation.
+// Calls that lend lists of planes, by their operation.
 use crate::parts::scalar;
 use isferghul::planar;
 
@@ -18,10 +18,6 @@ pub fn ask(
     let second = scalar(words, 2);
     let third = scalar(words, 3);
     match scalar(words, 0) {
-        17 => planar::isferghul_plane_band_width(first, second, third, told),
-        18 => planar::isferghul_plane_band_height(first, second, third, told),
-        19 => planar::isferghul_plane_band_length(first, second, third, told),
-        20 => planar::isferghul_plane_scratch(first, second, third, told),
         21 => planar::isferghul_analyse_plane(first, a, b, c, second, third, d, e, f, g, h, told),
         22 => planar::isferghul_synthesise_plane(a, b, c, d, e, f, first, second, g, h, told),
         23 => planar::isferghul_compare_bands(a, b, first, second, told),
