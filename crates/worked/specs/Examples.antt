@@ -1,4 +1,4 @@
--- Document 01's examples P1 to P12 as one list, in the document's order and numbers, and what it means that they hold. Definitions only; tools/expected_worked.py reads this list.
+-- Document 01's examples P1 to P12 as one list, in the document's order and numbers, and what it means that they hold. Definitions only; judge/examples.py reads this list.
 use mathlib.Core.Path.{_≡_}
 use mathlib.Core.List.{List, [], _∷_}
 use Prim.Native.Nat.{ℕ}
