@@ -1,8 +1,8 @@
 """Document 01's numbers, from its text: what every lent buffer holds after a call that is done. Each product is rounded, then each sum.
 
-Beside judge/rules.py, which has the tests. Buffers go in and out as lists of floats; None is a place that document 01 leaves open."""
+Beside judge/rules.py, which has the tests. Buffers go in and out as lists of floats; OPEN is a place that document 01 leaves open."""
 import rules
-from protocol import (ANALYSE, ANALYSE_LEVELS, ANALYSE_PLANE, BORDERS, CONVOLVE, LEVEL_DETAILS, MIRROR, READ_PLACE, RESTORE_LEVELS, RESTORED_LINE, SYNTHESISE,
+from protocol import (ANALYSE, ANALYSE_LEVELS, ANALYSE_PLANE, BORDERS, CONVOLVE, LEVEL_DETAILS, MIRROR, OPEN, READ_PLACE, RESTORE_LEVELS, RESTORED_LINE, SYNTHESISE,
                       SYNTHESISE_PLANE, THERE_AND_BACK)
 
 
@@ -145,7 +145,7 @@ def cut(numbers, length):
 
 def opened(width, height, f, scratch):
     """The scratch within its need is not said."""
-    return onto(scratch, [None] * rules.plane_need(width, height, f))
+    return onto(scratch, [OPEN] * rules.plane_need(width, height, f))
 
 
 def analyse_plane(border, width, height, low, high, plane, ll, lh, hl, hh, scratch):

@@ -1,4 +1,4 @@
--- What the code does to a line and to three, and what its functions promise. Grammar ties it to the texts. Definitions only.
+-- What the code does to a line and to three, and what its functions promise. Complete and Sound tie it to the texts. Definitions only.
 use mathlib.Core.Path.{_≡_}
 use mathlib.Core.Bool.{Bool, true, false, cond, _&&_, _||_}
 use mathlib.Core.List.{List, [], _∷_, _++_}

@@ -56,7 +56,7 @@ fn digits(text: &[u8], from: usize) -> Number
         if 15 < d {
             return Number { value, next: at };
         }
-        // A word has 16 digits at the most, so the remainder drops nothing.
+        // Of 16 digits the remainder drops nothing; a longer word is refused by its length.
         value = value % 1152921504606846976 * 16 + d;
         at += 1;
     }
@@ -119,7 +119,7 @@ fn put_word(text: &[u8], at: usize, words: &mut [u64; 8192], count: usize) -> Sp
 {
     let read = word(text, at);
     let often = times(text, read.next);
-    if read.next == at || often.value == 0 {
+    if read.next == at || 16 < read.next - at || often.value == 0 {
         return Span { count, next: at };
     }
     let end = often.next;
