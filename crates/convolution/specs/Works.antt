@@ -3,10 +3,10 @@ use mathlib.Core.Path.{_≡_}
 use mathlib.Core.List.{List}
 use Prim.Native.Nat.{ℕ, _+_, _-_, _≤_, _<_}
 use lib.IntN.{ℤ, natAbs}
-use lib.ListN.{length}
-use lib.Ieee.{Float, Format, binary64}
+use lib.ListN.{length, take}
+use lib.Ieee.{Float, Format, add, binary64, mul}
 use Rattle.border.specs.declared.rule.Place.{Place}
-use Rattle.numbers.specs.Words.{at}
+use Rattle.numbers.specs.Words.{at, tab}
 use Rattle.convolution.specs.Pads.{centreOf}
 use Rattle.convolution.specs.Sums.{convolved}
 
@@ -36,20 +36,24 @@ kernelSum f kernel line x i = convolved f (at kernel) (λ j. at line (x + j)) i
 abbrev pub placeOf : Format → List Float → List Float → ℕ → Float
 placeOf f kernel line x = kernelSum f kernel line x (length kernel - 1)
 
--- a kernel, with its first tap, over `count` places from x on of a padded line
-pub record Summable (kernel : List Float) (tap : Float) (padded x count : ℕ) : Type 0 where
-  pub some : 0 < length kernel
-  pub first : tap ≡ at kernel 0
-  pub within : x + count + length kernel ≤ padded + 1
-
 -- a kernel of f over as many places as the output has
 pub record Summing (f padded out : ℕ) : Type 0 where
   pub some : 0 < f
   pub within : out + f ≤ padded + 1
 
--- four sums of tap 0 and i more, side by side
-pub record Fours (kernel line : List Float) (x i : ℕ) (a b c d : Float) : Type 0 where
-  pub first : a ≡ kernelSum binary64 kernel line x i
-  pub second : b ≡ kernelSum binary64 kernel line (x + 1) i
-  pub third : c ≡ kernelSum binary64 kernel line (x + 2) i
-  pub fourth : d ≡ kernelSum binary64 kernel line (x + 3) i
+-- ---- several places at once
+
+-- the product of sample x + q and a tap, and sum q with that product
+abbrev pub product : Format → List Float → ℕ → Float → ℕ → Float
+product f line x tap q = mul f (at line (x + q)) tap
+
+abbrev pub more : Format → List Float → List Float → ℕ → Float → ℕ → Float
+more f sums line x tap q = add f (at sums q) (product f line x tap q)
+
+-- tap 0 and i more, at place x + q
+abbrev pub sumFrom : Format → List Float → List Float → ℕ → ℕ → ℕ → Float
+sumFrom f kernel line x i q = kernelSum f kernel line (x + q) i
+
+-- the first x places of an output are done
+abbrev pub Summed : List Float → List Float → ℕ → List Float → Type 0
+Summed kernel line x out = take x out ≡ tab (placeOf binary64 kernel line) x

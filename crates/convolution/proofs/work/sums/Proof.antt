@@ -1,13 +1,12 @@
--- `convolution::work::sums` meets its contract: the first places four at a time, and then the rest, are all of them.
+-- `convolution::work::sums` meets its contract: the rest of the places, behind those done sixteen and four at a time, are all of them.
+use Rattle.numbers.specs.Words.{tab}
+use mathlib.Core.Path.{_∙_, ap}
 use borrow.Author.Needs.{needs}
 use Rattle.convolution.proofs.work.sums.Statement.{statement}
 use Rattle.convolution.proofs.work.sums.Tie as tie
-use Rattle.border.specs.Rule.{padded}
-use Rattle.convolution.specs.Turns.{written-rest}
-use denote.Ref.{now}
-use lib.Ieee.{binary64, nan}
-use mathlib.Core.Path.{_∙_}
-use Rattle.convolution.specs.Works.{placeOf}
+
+sixteens-requires : tie.Need-sixteens-requires
+sixteens-requires c κs = search needs
 
 fours-requires : tie.Need-fours-requires
 fours-requires c κs = search needs
@@ -19,8 +18,8 @@ same-length : tie.Need-same-length
 same-length c = search needs
 
 returns : tie.Need-returns
-returns c = let r = c .before .before in let f = r .before .before .before .before in let a = f .before .before .before .before .before .args in
-    r .rest .ensures ∙ written-rest nan (placeOf binary64 (now (a .kernel)) (now (a .padded))) (f .fours .result) (now (a .out)) (f .fours .ensures .0) (f .fours .ensures .1)
+returns c = let r = c .before .before in let f = r .before .before .before .before in let s = f .before .before .before .before in
+    r .rest .ensures ∙ ap (tab _) (f .fours .kept .1 .1 .0 ∙ s .sixteens .kept .1 .1 .0)
 
 pub sums-spec : {M : Type 1} → statement M
-sums-spec = tie.close (tie.spec fours-requires rest-requires same-length returns)
+sums-spec = tie.close (tie.spec sixteens-requires fours-requires rest-requires same-length returns)
