@@ -13,21 +13,24 @@ abbrev pub bandOf : Format → List Float → ℕ → List Float → ℕ → Flo
 bandOf f taps F line i = tapSum f taps line (2 * i) F
 
 -- two bands of a padded line
-pub record Bandable (f padded approx detail : ℕ) : Type 0 where
-  pub most : f ≤ 64
+pub record Bandable (f low high padded approx detail : ℕ) : Type 0 where
+  pub lows : f ≤ low
+  pub highs : f ≤ high
   pub both : detail ≡ approx
   pub within : 2 * approx + f ≤ padded + 2
 
 -- two bands of m places in one buffer
-pub record Beside (f padded both m : ℕ) : Type 0 where
-  pub most : f ≤ 64
+pub record Beside (f low high padded both m : ℕ) : Type 0 where
+  pub lows : f ≤ low
+  pub highs : f ≤ high
   pub filled : both ≡ m + m
   pub within : 2 * m + f ≤ padded + 2
 
 -- a padded line of m pairs in a list of s from `from` on, and both bands before it from `to` on
-pub record Inside (f s from to m : ℕ) : Type 0 where
+pub record Inside (f low high s from to m : ℕ) : Type 0 where
+  pub lows : f ≤ low
+  pub highs : f ≤ high
   pub two : 2 ≤ f
-  pub most : f ≤ 64
   pub before : to + (m + m) ≤ from
   pub within : from + (2 * m + f - 2) ≤ s
 

@@ -64,9 +64,8 @@ pub fn analyse(
         return answer;
     };
     let border = bank.border;
-    // Copied before the scratch is written: the compiler then knows that they stay.
-    let low = bank.low;
-    let high = bank.high;
-    line_bands(&low, &high, f, border, line, approx, detail, scratch);
+    let low = &bank.low;
+    let high = &bank.high;
+    line_bands(low, high, f, border, line, approx, detail, scratch);
     Analysis::Done
 }

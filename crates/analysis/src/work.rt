@@ -1,30 +1,59 @@
 // Both bands of a line, padded or to be padded, for entries to share: sizes have been tested.
 ghost use mathlib.Core.Path.{_≡_};
 ghost use mathlib.Core.List.{_++_};
-ghost use Prim.Native.Nat.{_*_};
+ghost use Prim.Native.Nat.{_*_, _≤_};
 ghost use lib.ListN.{length};
 ghost use lib.Ieee.{binary64};
-ghost use Rattle.numbers.specs.Words.{tab};
+ghost use Rattle.numbers.specs.Words.{tab, written};
+ghost use Rattle.bank.specs.Lengths.{Lent};
 ghost use Rattle.analysis.specs.Lines.{band, paddedInto};
 ghost use Rattle.analysis.specs.Works.{bandOf, bothPlaced, Bandable, Beside, Inside, Padding, Analysing};
+ghost use Rattle.analysis.specs.Halves.{lineAt, Halves};
 use border::Border;
 use border::pad::pad;
+use summing::eights::eight;
+use summing::eights::put_approx;
+use summing::eights::put_detail;
 use summing::place;
+
+// Eight places a turn, from the front; the answer is how many are done.
+fn eights(
+    low: &[f64],
+    high: &[f64],
+    f: usize,
+    padded: &[f64],
+    approx: &mut [f64],
+    detail: &mut [f64],
+) -> usize
+    requires { ⌜ Bandable f (length (now low)) (length (now high)) (length (now padded)) (length (now approx)) (length (now detail)) ⌝ }
+    ensures { λ r. ⌜ (r ≤ length (now (approx .entry))) × (now (approx .exit) ≡ written (bandOf binary64 (now (low .entry)) f (now (padded .entry))) r (now (approx .entry)))
+        × (now (detail .exit) ≡ written (bandOf binary64 (now (high .entry)) f (now (padded .entry))) r (now (detail .entry))) ⌝ }
+{
+    let m = approx.len();
+    let mut i = 0usize;
+    while i + 7 < m {
+        let pairs = eight(low, high, f, padded, 2 * i);
+        put_approx(pairs, approx, i);
+        put_detail(pairs, detail, i);
+        i += 8;
+    }
+    i
+}
 
 // Both bands of a padded line.
 pub fn bands(
-    low: &[f64; 64],
-    high: &[f64; 64],
+    low: &[f64],
+    high: &[f64],
     f: usize,
     padded: &[f64],
     approx: &mut [f64],
     detail: &mut [f64],
 )
-    requires { ⌜ Bandable f (length (now padded)) (length (now approx)) (length (now detail)) ⌝ }
+    requires { ⌜ Bandable f (length (now low)) (length (now high)) (length (now padded)) (length (now approx)) (length (now detail)) ⌝ }
     ensures { λ _. ⌜ (now (approx .exit) ≡ tab (bandOf binary64 (now (low .entry)) f (now (padded .entry))) (length (now (approx .entry))))
         × (now (detail .exit) ≡ tab (bandOf binary64 (now (high .entry)) f (now (padded .entry))) (length (now (approx .entry)))) ⌝ }
 {
-    let mut i = 0usize;
+    let mut i = eights(low, high, f, padded, approx, detail);
     while i < approx.len() {
         let p = place(low, high, f, padded, 2 * i);
         approx[i] = p.approx;
@@ -33,19 +62,34 @@ pub fn bands(
     }
 }
 
-// The same into one buffer: the details in front, the approximations behind them.
-pub fn bands_beside(
-    low: &[f64; 64],
-    high: &[f64; 64],
+// Eight places a turn into one buffer, the details in front, the approximations behind them.
+fn eights_beside(
+    low: &[f64],
+    high: &[f64],
     f: usize,
     padded: &[f64],
     both: &mut [f64],
     m: usize,
-)
-    requires { ⌜ Beside f (length (now padded)) (length (now both)) m ⌝ }
-    ensures { λ _. ⌜ now (both .exit) ≡ tab (bandOf binary64 (now (high .entry)) f (now (padded .entry))) m ++ tab (bandOf binary64 (now (low .entry)) f (now (padded .entry))) m ⌝ }
+) -> usize
+    requires { ⌜ Beside f (length (now low)) (length (now high)) (length (now padded)) (length (now both)) m ⌝ }
+    ensures { λ r. ⌜ (r ≤ m) × Halves (bandOf binary64 (now (high .entry)) f (now (padded .entry))) (bandOf binary64 (now (low .entry)) f (now (padded .entry))) 0 m r (now (both .entry)) (now (both .exit)) ⌝ }
 {
     let mut i = 0usize;
+    while i + 7 < m {
+        let pairs = eight(low, high, f, padded, 2 * i);
+        put_detail(pairs, both, i);
+        put_approx(pairs, both, m + i);
+        i += 8;
+    }
+    i
+}
+
+// The same into one buffer: the details in front, the approximations behind them.
+pub fn bands_beside(low: &[f64], high: &[f64], f: usize, padded: &[f64], both: &mut [f64], m: usize)
+    requires { ⌜ Beside f (length (now low)) (length (now high)) (length (now padded)) (length (now both)) m ⌝ }
+    ensures { λ _. ⌜ now (both .exit) ≡ tab (bandOf binary64 (now (high .entry)) f (now (padded .entry))) m ++ tab (bandOf binary64 (now (low .entry)) f (now (padded .entry))) m ⌝ }
+{
+    let mut i = eights_beside(low, high, f, padded, both, m);
     while i < m {
         let p = place(low, high, f, padded, 2 * i);
         both[i] = p.detail;
@@ -54,21 +98,45 @@ pub fn bands_beside(
     }
 }
 
+// Eight places a turn where the padded line lies in the buffer that takes the bands.
+fn eights_within(
+    low: &[f64],
+    high: &[f64],
+    f: usize,
+    s: &mut [f64],
+    from: usize,
+    to: usize,
+    m: usize,
+) -> usize
+    requires { ⌜ Inside f (length (now low)) (length (now high)) (length (now s)) from to m ⌝ }
+    ensures { λ r. ⌜ (r ≤ m) × Halves (bandOf binary64 (now (low .entry)) f (lineAt f from m (now (s .entry)))) (bandOf binary64 (now (high .entry)) f (lineAt f from m (now (s .entry)))) to m r (now (s .entry)) (now (s .exit)) ⌝ }
+{
+    let end = from + (2 * m + f - 2);
+    let mut i = 0usize;
+    while i + 7 < m {
+        let pairs = eight(low, high, f, &s[from..end], 2 * i);
+        put_approx(pairs, s, to + i);
+        put_detail(pairs, s, to + m + i);
+        i += 8;
+    }
+    i
+}
+
 // The same where the padded line lies in the buffer that takes the bands, from `from` on: the approximations go to it from `to` on, the details behind them.
 pub fn bands_within(
-    low: &[f64; 64],
-    high: &[f64; 64],
+    low: &[f64],
+    high: &[f64],
     f: usize,
     s: &mut [f64],
     from: usize,
     to: usize,
     m: usize,
 )
-    requires { ⌜ Inside f (length (now s)) from to m ⌝ }
+    requires { ⌜ Inside f (length (now low)) (length (now high)) (length (now s)) from to m ⌝ }
     ensures { λ _. ⌜ now (s .exit) ≡ bothPlaced binary64 (now (low .entry)) (now (high .entry)) f from to m (now (s .entry)) ⌝ }
 {
     let end = from + (2 * m + f - 2);
-    let mut i = 0usize;
+    let mut i = eights_within(low, high, f, s, from, to, m);
     while i < m {
         let p = place(low, high, f, &s[from..end], 2 * i);
         s[to + i] = p.approx;
@@ -89,9 +157,9 @@ pub fn pad_line(f: usize, border: Border, line: &[f64], scratch: &mut [f64])
 }
 
 // Both bands of a line, by way of the padded line at the front of the scratch.
-pub fn line_bands(
-    low: &[f64; 64],
-    high: &[f64; 64],
+pub fn line_bands<'a>(
+    low: &'a [f64],
+    high: &'a [f64],
     f: usize,
     border: Border,
     line: &[f64],
@@ -99,7 +167,7 @@ pub fn line_bands(
     detail: &mut [f64],
     scratch: &mut [f64],
 )
-    requires { ⌜ Analysing f (length (now line)) (length (now approx)) (length (now detail)) (length (now scratch)) ⌝ }
+    requires { ⌜ Lent f (length (now low)) (length (now high)) × Analysing f (length (now line)) (length (now approx)) (length (now detail)) (length (now scratch)) ⌝ }
     ensures { λ _. ⌜ (now (approx .exit) ≡ band binary64 (now (low .entry)) f border (now (line .entry)))
         × (now (detail .exit) ≡ band binary64 (now (high .entry)) f border (now (line .entry)))
         × (now (scratch .exit) ≡ paddedInto f border (now (line .entry)) (now (scratch .entry))) ⌝ }

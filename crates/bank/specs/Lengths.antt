@@ -36,3 +36,8 @@ pub record Analysable (n f : ℕ) : Type 0 where
   pub taps : GoodTaps f
   pub limit : n ≤ longest
   pub enough : f ≤ n
+
+-- two lists that are lent: the first f of either are the taps
+pub record Lent (f low high : ℕ) : Type 0 where
+  pub lows : f ≤ low
+  pub highs : f ≤ high

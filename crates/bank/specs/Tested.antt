@@ -8,7 +8,7 @@ use Rattle.bank.specs.declared.making.Making.the-variants as making
 use Rattle.bank.specs.Banks as Banks
 use Rattle.bank.specs.Sizes as Sizes
 use Prim.Native.Nat.{_%_, _<_, _≤_, suc, zero, ℕ, _+_, _-_, _*_, _/_}
-use Rattle.bank.specs.Lengths.{badTaps, pairs, wholePad, GoodTaps, Analysable}
+use Rattle.bank.specs.Lengths.{badTaps, pairs, wholePad, GoodTaps, Analysable, Lent}
 use Rattle.numbers.specs.Tests.{neither, passed}
 use Rattle.numbers.specs.Words.{longest, whenDone}
 use borrow.Author.Tests.{eqb-false, eqb-true, ltb-false, not-false, eq-eqb, ne-eqb, le-ltb}
@@ -32,6 +32,10 @@ good-taps f e =
     some zero h z = absurd (z refl)
     some (suc zero) h z = absurd (omega arith)
     some (suc (suc f)) h z = omega arith
+
+-- a bank's lists, lent whole
+pub lent-all : {f low high : ℕ} → f ≤ 64 → low ≡ 64 → high ≡ 64 → Lent f low high
+lent-all k e g = record { lows = omega (arith, k, e); highs = omega (arith, k, g) }
 
 pub taps-pass : (f : ℕ) → GoodTaps f → badTaps f ≡ false
 unfolding badTaps

@@ -1,33 +1,17 @@
--- Laws of a line that is copied in runs: one run behind another is one run, and eight stores in a row are one.
-use mathlib.Core.Path.{_≡_, refl, sym, ap, _∙_}
-use mathlib.Core.List.{List, _++_}
-use Prim.Native.Nat.{ℕ, zero, suc, _+_, _-_, _≤_, _<_}
+-- Laws of a line that is copied in runs: eight stores in a row are one run, and the rest behind them makes it whole.
+use mathlib.Core.Path.{_≡_, refl, ap, _∙_}
+use mathlib.Core.List.{List}
+use Prim.Native.Nat.{ℕ, _+_, _-_, _≤_}
 use native.Mathlib.Omega.{arith}
 use lib.ListN.{length, take, drop, set, length-drop}
 use lib.Seq.{length-take-le}
 use lib.Ieee.{Float, nan}
-use Rattle.numbers.specs.Words.{at, written, placed}
-use Rattle.numbers.specs.Write.{placed-start, placed-step, length-placed}
-use Rattle.numbers.specs.Places.{getD-part, tab-same}
+use Rattle.numbers.specs.Words.{at, placed}
+use Rattle.numbers.specs.Write.{placed-start, placed-step}
+use Rattle.numbers.specs.Places.{getD-part}
+use Rattle.numbers.specs.Runs.{placed-same, placed-more}
 
 module _ {A : Type 0} (g : ℕ → A) (s : ℕ) (x : List A) where
-  -- m places behind n
-  pub placed-more : (n m : ℕ) → s + n + m ≤ length x → placed (λ k. g (n + k)) (s + n) m (placed g s n x) ≡ placed g s (n + m) x
-  placed-more n zero h =
-      let q : n ≡ n + 0 = omega arith in
-      sym (placed-start (λ k. g (n + k)) (s + n) (placed g s n x)) ∙ ap (λ (k : ℕ). placed g s k x) q
-  placed-more n (suc m) h =
-      let y = placed g s n x in
-      let l : length y ≡ length x = length-placed g s n x (omega arith) in
-      let there : s + n + m ≡ s + (n + m) = omega arith in
-      let next : suc m ≡ m + 1 = omega arith in
-      let last : n + m + 1 ≡ n + suc m = omega arith in
-      ap (λ (k : ℕ). placed (λ k. g (n + k)) (s + n) k y) next
-      ∙ sym (placed-step (λ k. g (n + k)) (s + n) m y (omega (arith, l)) refl refl)
-      ∙ ap (λ (k : ℕ). set (placed (λ k. g (n + k)) (s + n) m y) k (g (n + m))) there
-      ∙ placed-step g s (n + m) x (omega arith) (placed-more n m (omega arith)) refl
-      ∙ ap (λ (k : ℕ). placed g s k x) last
-
   pub placed-eight : {v : A} → v ≡ g 0 → s + 8 ≤ length x
       → set (set (set (set (set (set (set (set x s v) (s + 1) (g 1)) (s + 2) (g 2)) (s + 3) (g 3)) (s + 4) (g 4)) (s + 5) (g 5)) (s + 6) (g 6)) (s + 7) (g 7) ≡ placed g s 8 x
   placed-eight {v} e h =
@@ -40,10 +24,6 @@ module _ {A : Type 0} (g : ℕ → A) (s : ℕ) (x : List A) where
       let six = placed-step g s 5 x (omega arith) five refl in
       let seven = placed-step g s 6 x (omega arith) six refl in
       placed-step g s 7 x (omega arith) seven refl
-
-  placed-same : (h : ℕ → A) (n : ℕ) → ((k : ℕ) → k < n → g k ≡ h k) → placed g s n x ≡ placed h s n x
-  unfolding placed written
-  placed-same h n e = ap (λ (l : List A). take s x ++ (l ++ drop n (drop s x))) (tab-same g h n e)
 
 -- n numbers of a line, then what lies behind them: the line
 pub copied-on : (line x : List Float) (to n : ℕ) {x₁ x₂ : List Float} → let rest = take (length line - n) (drop n line) in n ≤ length line → to + length line ≤ length x

@@ -11,7 +11,7 @@ use Rattle.whole.specs.Integers.{size-add, size-mul}
 use Rattle.whole.specs.Floats.{Whole, Within}
 use Rattle.whole.specs.Exact.{add-whole, mul-whole, zero-whole}
 use Rattle.summing.specs.Sums.{dot}
-use Rattle.spreading.specs.Pairs.{onto}
+use Rattle.gathering.specs.Pairs.{onto}
 use Rattle.synthesis.specs.Sums.{meets, joined}
 use Rattle.synthesis.specs.Meets.{reached}
 use Rattle.exact.specs.Classes.{joinsℤ}

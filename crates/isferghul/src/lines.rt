@@ -3,10 +3,10 @@ ghost use Rattle.line_calls.specs.Lines.{AnalysisTold, SynthesisTold, Convoluti
 use line_calls::lines;
 
 #[no_mangle]
-pub extern "C" fn isferghul_analyse(
+pub extern "C" fn isferghul_analyse<'a>(
     border: usize,
-    low: &[f64],
-    high: &[f64],
+    low: &'a [f64],
+    high: &'a [f64],
     line: &[f64],
     approx: &mut [f64],
     detail: &mut [f64],
@@ -21,9 +21,9 @@ pub extern "C" fn isferghul_analyse(
 
 // No border: synthesis reads none.
 #[no_mangle]
-pub extern "C" fn isferghul_synthesise(
-    low: &[f64],
-    high: &[f64],
+pub extern "C" fn isferghul_synthesise<'a>(
+    low: &'a [f64],
+    high: &'a [f64],
     approx: &[f64],
     detail: &[f64],
     out: &mut [f64],

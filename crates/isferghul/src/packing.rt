@@ -4,10 +4,10 @@ use level_calls::analyse_levels;
 use level_calls::restore_levels;
 
 #[no_mangle]
-pub extern "C" fn isferghul_analyse_levels(
+pub extern "C" fn isferghul_analyse_levels<'a>(
     border: usize,
-    low: &[f64],
-    high: &[f64],
+    low: &'a [f64],
+    high: &'a [f64],
     line: &[f64],
     levels: usize,
     packed: &mut [f64],
@@ -22,9 +22,9 @@ pub extern "C" fn isferghul_analyse_levels(
 
 // No border: restoring reads none.
 #[no_mangle]
-pub extern "C" fn isferghul_restore_levels(
-    low: &[f64],
-    high: &[f64],
+pub extern "C" fn isferghul_restore_levels<'a>(
+    low: &'a [f64],
+    high: &'a [f64],
     packed: &[f64],
     n: usize,
     levels: usize,

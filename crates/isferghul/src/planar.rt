@@ -57,10 +57,10 @@ pub extern "C" fn isferghul_plane_scratch(
 }
 
 #[no_mangle]
-pub extern "C" fn isferghul_analyse_plane(
+pub extern "C" fn isferghul_analyse_plane<'a>(
     border: usize,
-    low: &[f64],
-    high: &[f64],
+    low: &'a [f64],
+    high: &'a [f64],
     plane: &[f64],
     width: usize,
     height: usize,
@@ -92,9 +92,9 @@ pub extern "C" fn isferghul_analyse_plane(
 
 // No border: synthesis reads none.
 #[no_mangle]
-pub extern "C" fn isferghul_synthesise_plane(
-    low: &[f64],
-    high: &[f64],
+pub extern "C" fn isferghul_synthesise_plane<'a>(
+    low: &'a [f64],
+    high: &'a [f64],
     ll: &[f64],
     lh: &[f64],
     hl: &[f64],

@@ -1,4 +1,4 @@
--- Laws of the calls over levels: the entries' tests, and their work over arrays that the caller's lists were copied to, give what is promised over those lists.
+-- Laws of the calls over levels: the entries' tests, and their work over the caller's lists, give what is promised over the lists.
 use mathlib.Core.Path.{_≡_, refl, sym, ap, _∙_, subst}
 use mathlib.Core.Bool.{true, false, cond}
 use mathlib.Core.List.{List, [], _∷_}
@@ -6,7 +6,6 @@ use Prim.Native.Nat.{ℕ, _%_}
 use lib.Dec.{eqb}
 use lib.ListN.{length, take}
 use lib.Ieee.{Float, binary64}
-use Rattle.numbers.specs.Words.{at, placed}
 use Rattle.numbers.specs.Tests.{done-as, kept, renewed}
 use Rattle.border.specs.declared.Border.{Border}
 use Rattle.packed.specs.declared.Levels.{Levels}
@@ -16,13 +15,12 @@ use Rattle.packed.specs.Answers.{numberOf, valuesOf}
 use Rattle.packed.specs.Tested.{done-alone}
 use Rattle.levels.specs.Analyses as Analyses
 use Rattle.levels.specs.Lines.{packedLine, paddedLines}
-use Rattle.levels.specs.Taps.{packed-same, padded-same}
 use Rattle.levels.specs.Tested.{splitting}
+use Rattle.bank.specs.Lengths.{Lent}
 use Rattle.levels.specs.Works.{Splitting}
 use Rattle.restoring.specs.Restorings as Restorings
 use Rattle.restoring.specs.Lines.{restored, firstAfter, secondAfter}
 use Rattle.restoring.specs.Steps.{whole-front}
-use Rattle.restoring.specs.Taps.{first-same, second-same}
 use Rattle.restoring.specs.Tested.{restoring, length-restored}
 use Rattle.restoring.specs.Works.{Restoring}
 use Rattle.telling.specs.Told.{Told, carriedFrom}
@@ -30,7 +28,7 @@ use Rattle.telling.specs.Borders.{borderOf, noBorder}
 use Rattle.line_calls.specs.Lines.{tapsOf}
 use Rattle.level_calls.specs.Packing.{holder, valuesBack, LevelsTold, RestoringTold}
 use Rattle.telling.specs.Telling.{retold, told-as, under, hidden, positive, left-alone, renamed}
-use Rattle.line_calls.specs.Pairs.{Paired, listed, copied}
+use Rattle.line_calls.specs.Pairs.{Paired, listed, lent}
 
 -- ---- analysis
 module _ (border : ℕ) (low high line : List Float) (levels : ℕ) (packed scratch : List Float) {words words′ : List ℕ} {a : Levels} {f number : ℕ}
@@ -45,7 +43,7 @@ module _ (border : ℕ) (low high line : List Float) (levels : ℕ) (packed scra
   pub levels-ready : {k : ℕ} → k ≡ levelsOf levels → number ≡ 0 → Splitting (length line) f k (length packed) (length scratch)
   levels-ready q z = splitting _ _ _ _ _ _ q (sym tested ∙ done-alone a (sym (t .given) ∙ z))
 
-  pub levels-lists : number ≡ 0 → Paired (length low) (length high)
+  levels-lists : number ≡ 0 → Paired (length low) (length high)
   levels-lists z = listed _ _ taps (levels-ready refl z .packs .sound .taps .two)
 
   pub levels-refused : noBorder border ≡ false → (number ≡ 0 → ⊥) → LevelsTold border low high line levels packed scratch words number packed scratch words′
@@ -55,17 +53,14 @@ module _ (border : ℕ) (low high line : List Float) (levels : ℕ) (packed scra
     scratched = kept number (positive number n) _ scratch;
   }
 
-  pub levels-done : {b : Border} {k : ℕ} {l h packed′ scratch′ : List Float} (zeros : List Float) → noBorder border ≡ false → number ≡ 0 → b ≡ borderOf border → k ≡ levelsOf levels
-      → l ≡ placed (at low) 0 (length low) zeros → h ≡ placed (at high) 0 (length high) zeros
-      → packed′ ≡ packedLine binary64 l h f b line k → scratch′ ≡ paddedLines binary64 l f b line k scratch
+  pub levels-lent : number ≡ 0 → Lent f (length low) (length high)
+  levels-lent z = lent _ _ taps (levels-lists z)
+
+  pub levels-done : {b : Border} {k : ℕ} {packed′ scratch′ : List Float} → noBorder border ≡ false → number ≡ 0 → b ≡ borderOf border → k ≡ levelsOf levels
+      → packed′ ≡ packedLine binary64 low high f b line k → scratch′ ≡ paddedLines binary64 low f b line k scratch
       → LevelsTold border low high line levels packed scratch words 0 packed′ scratch′ words′
-  levels-done {b} {k} {l} {h} zeros e z named deep el eh ep es =
-      let p = levels-lists z in
-      let F = length low in
-      let count = taps ∙ p .count in
-      let lows = copied low F zeros el refl in
-      let packed-lists = packed-same binary64 l low F b line lows h high (copied high F zeros eh (p .both)) k in
-      let padded-lists = padded-same binary64 l low F b line lows k scratch in
+  levels-done {b} {k} e z named deep ep es =
+      let count = taps ∙ levels-lists z .count in
       record { told = under border e (renamed (sym z) by-lists); packs = (cc); scratched = (cc) }
 
 pub levels-hidden : (border : ℕ) (low high line : List Float) (levels : ℕ) (packed scratch : List Float) {words words′ : List ℕ} {r : ℕ}
@@ -87,8 +82,11 @@ module _ (low high packed : List Float) (n levels : ℕ) (first second : List Fl
   pub restoring-ready : {k : ℕ} → k ≡ levelsOf levels → number ≡ 0 → Restoring n f k (length packed) (length first) (length second)
   restoring-ready q z = restoring _ _ _ _ _ _ _ q (sym tested ∙ finished z)
 
-  pub restoring-lists : number ≡ 0 → Paired (length low) (length high)
+  restoring-lists : number ≡ 0 → Paired (length low) (length high)
   restoring-lists z = listed _ _ taps (restoring-ready refl z .packs .sound .taps .two)
+
+  pub restoring-lent : number ≡ 0 → Lent f (length low) (length high)
+  restoring-lent z = lent _ _ taps (restoring-lists z)
 
   pub restoring-refused : (number ≡ 0 → ⊥) → RestoringTold low high packed n levels first second words number first second words′
   restoring-refused h =
@@ -100,19 +98,14 @@ module _ (low high packed : List Float) (n levels : ℕ) (first second : List Fl
         seconds = kept number k _ second;
       }
 
-  pub restoring-done : {k w m r : ℕ} {l h first′ second′ : List Float} {words″ : List ℕ} (zeros : List Float) → number ≡ 0 → k ≡ levelsOf levels
-      → l ≡ placed (at low) 0 (length low) zeros → h ≡ placed (at high) 0 (length high) zeros
-      → first′ ≡ firstAfter binary64 f l h packed n k k first → second′ ≡ secondAfter binary64 f l h packed n k k second
+  pub restoring-done : {k w m r : ℕ} {first′ second′ : List Float} {words″ : List ℕ} → number ≡ 0 → k ≡ levelsOf levels
+      → first′ ≡ firstAfter binary64 f low high packed n k k first → second′ ≡ secondAfter binary64 f low high packed n k k second
       → w ≡ holder levels → m ≡ restoringLength n f → Told 0 (w ∷ m ∷ []) words′ r words″
       → RestoringTold low high packed n levels first second words r first′ second′ words″
-  restoring-done {k} {l = l} {h} zeros z deep el eh e1 e2 ew em u =
+  restoring-done z deep e1 e2 ew em u =
       let p = restoring-lists z in
       let F = length low in
       let count = taps ∙ p .count in
-      let lows = copied low F zeros el refl in
-      let highs = copied high F zeros eh (p .both) in
-      let first-lists = first-same binary64 F l low h high packed n k lows highs k first in
-      let second-lists = second-same binary64 F l low h high packed n k lows highs k second in
       let same : words′ ≡ words = t .carried ∙ ap (λ (x : Levels). carriedFrom 0 (valuesOf x) words) (finished z) in
       record {
         told = told-as numberOf (valuesBack n (tapsOf F (length high)) levels) (sym answered ∙ finished z) (record { given = u .given; carried = (cc) });

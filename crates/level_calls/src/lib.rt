@@ -1,7 +1,6 @@
 // A line over levels and back, for C: the entries' tests and work over the caller's own taps, so that no bank is made and copied in a call.
 ghost use mathlib.Core.Path.{_≡_};
 ghost use Rattle.level_calls.specs.Packing.{holder, LevelsTold, RestoringTold};
-use border::pad::copy_to;
 use level_telling::told;
 use levels::levels_answer;
 use levels::work::split;
@@ -15,10 +14,10 @@ use telling::borders::no_border;
 use telling::told::one;
 use telling::told::two;
 
-pub fn analyse_levels(
+pub fn analyse_levels<'a>(
     border: usize,
-    low: &[f64],
-    high: &[f64],
+    low: &'a [f64],
+    high: &'a [f64],
     line: &[f64],
     levels: usize,
     packed: &mut [f64],
@@ -37,13 +36,9 @@ pub fn analyse_levels(
     if number != 0 {
         return number;
     }
-    let mut l = [0.0f64; 64];
-    let mut h = [0.0f64; 64];
-    copy_to(low, &mut l, 0);
-    copy_to(high, &mut h, 0);
     split(
-        &l,
-        &h,
+        low,
+        high,
         f,
         border_of(border),
         line,
@@ -65,9 +60,9 @@ fn holder_of(levels: usize) -> usize
 }
 
 // No border: restoring reads none.
-pub fn restore_levels(
-    low: &[f64],
-    high: &[f64],
+pub fn restore_levels<'a>(
+    low: &'a [f64],
+    high: &'a [f64],
     packed: &[f64],
     n: usize,
     levels: usize,
@@ -84,10 +79,6 @@ pub fn restore_levels(
     if number != 0 {
         return number;
     }
-    let mut l = [0.0f64; 64];
-    let mut h = [0.0f64; 64];
-    copy_to(low, &mut l, 0);
-    copy_to(high, &mut h, 0);
-    restore(&l, &h, f, packed, n, most(levels, 1), first, second);
+    restore(low, high, f, packed, n, most(levels, 1), first, second);
     two(0, holder_of(levels), restoring_need(n, f), carried)
 }

@@ -44,17 +44,8 @@ pub fn analyse_levels(
         return answer;
     };
     let border = bank.border;
-    let low = bank.low;
-    let high = bank.high;
-    split(
-        &low,
-        &high,
-        f,
-        border,
-        line,
-        most(levels, 1),
-        packed,
-        scratch,
-    );
+    let low = &bank.low;
+    let high = &bank.high;
+    split(low, high, f, border, line, most(levels, 1), packed, scratch);
     Levels::Done
 }

@@ -4,6 +4,7 @@ ghost use mathlib.Core.Path.{_≡_};
 ghost use lib.ListN.{length};
 ghost use lib.Ieee.{binary64};
 ghost use Rattle.analysis.specs.Lines.{paddedInto};
+ghost use Rattle.bank.specs.Lengths.{Lent};
 ghost use Rattle.levels.specs.Lines.{packedLine, paddedLines};
 ghost use Rattle.levels.specs.Works.{lineHeld, Held, Splitting};
 use analysis::work::bands_beside;
@@ -33,9 +34,9 @@ fn pad_level(
 }
 
 // Each level's details, and behind them its approximations, which the next level splits.
-pub fn split(
-    low: &[f64; 64],
-    high: &[f64; 64],
+pub fn split<'a>(
+    low: &'a [f64],
+    high: &'a [f64],
     f: usize,
     border: Border,
     line: &[f64],
@@ -43,7 +44,7 @@ pub fn split(
     packed: &mut [f64],
     scratch: &mut [f64],
 )
-    requires { ⌜ Splitting (length (now line)) f levels (length (now packed)) (length (now scratch)) ⌝ }
+    requires { ⌜ Lent f (length (now low)) (length (now high)) × Splitting (length (now line)) f levels (length (now packed)) (length (now scratch)) ⌝ }
     ensures { λ _. ⌜ (now (packed .exit) ≡ packedLine binary64 (now (low .entry)) (now (high .entry)) f border (now (line .entry)) levels)
         × (now (scratch .exit) ≡ paddedLines binary64 (now (low .entry)) f border (now (line .entry)) levels (now (scratch .entry))) ⌝ }
 {

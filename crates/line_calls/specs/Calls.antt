@@ -1,33 +1,31 @@
--- Laws of the calls on lines: the entries' tests, and their work over arrays that the caller's lists were copied to, give what is promised over those lists.
-use mathlib.Core.Path.{_≡_, refl, sym, ap, _∙_, subst}
+-- Laws of the calls on lines: the entries' tests, and their work over the caller's lists, give what is promised over the lists.
+use mathlib.Core.Path.{_≡_, sym, ap, _∙_, subst}
 use mathlib.Core.Bool.{true, false}
 use mathlib.Core.List.{List, [], _∷_}
 use Prim.Native.Nat.{ℕ}
 use lib.IntN.{ℤ}
 use lib.ListN.{length}
 use lib.Ieee.{Float, binary64}
-use Rattle.numbers.specs.Words.{at, placed}
 use Rattle.numbers.specs.Tests.{done-as, kept}
 use Rattle.border.specs.declared.Border.{Border}
 use Rattle.analysis.specs.declared.Analysis.{Analysis}
 use Rattle.analysis.specs.Analyses as Analyses
 use Rattle.analysis.specs.Lines.{band, paddedInto}
-use Rattle.analysis.specs.Taps.{band-same}
 use Rattle.analysis.specs.Tested.{analysing, done-alone as done-analysis}
+use Rattle.bank.specs.Lengths.{Lent}
 use Rattle.analysis.specs.Works.{Analysing}
 use Rattle.synthesis.specs.declared.Synthesis.{Synthesis}
 use Rattle.synthesis.specs.Syntheses as Syntheses
 use Rattle.synthesis.specs.Lines.{synthesised}
-use Rattle.synthesis.specs.Taps.{synthesised-same}
 use Rattle.synthesis.specs.Tested.{joinable, done-alone as done-synthesis}
-use Rattle.synthesis.specs.Works.{Joinable}
+use Rattle.synthesis.specs.Works.{Joinable, Taking}
 use Rattle.convolution.specs.declared.Convolution.{Convolution}
 use Rattle.convolution.specs.Convolutions as Convolutions
 use Rattle.telling.specs.Told.{Told}
 use Rattle.telling.specs.Borders.{borderOf, noBorder}
 use Rattle.line_calls.specs.Lines.{tapsOf, AnalysisTold, SynthesisTold, ConvolutionTold}
 use Rattle.telling.specs.Telling.{told-as, under, hidden, positive, left-alone, renamed}
-use Rattle.line_calls.specs.Pairs.{Paired, listed, copied}
+use Rattle.line_calls.specs.Pairs.{Paired, listed, lent}
 
 -- ---- analysis
 module _ (border : ℕ) (low high line approx detail scratch : List Float) {words words′ : List ℕ} {a : Analysis} {f number : ℕ}
@@ -42,7 +40,7 @@ module _ (border : ℕ) (low high line approx detail scratch : List Float) {word
   pub analysis-ready : number ≡ 0 → Analysing f (length line) (length approx) (length detail) (length scratch)
   analysis-ready z = analysing _ _ _ _ _ (sym tested ∙ done-analysis a (sym (t .given) ∙ z))
 
-  pub analysis-lists : number ≡ 0 → Paired (length low) (length high)
+  analysis-lists : number ≡ 0 → Paired (length low) (length high)
   analysis-lists z = listed _ _ taps (analysis-ready z .ready .taps .two)
 
   pub analysis-refused : noBorder border ≡ false → (number ≡ 0 → ⊥) → AnalysisTold border low high line approx detail scratch words number approx detail scratch words′
@@ -53,16 +51,14 @@ module _ (border : ℕ) (low high line approx detail scratch : List Float) {word
     scratched = kept number (positive number n) _ scratch;
   }
 
-  pub analysis-done : {b : Border} {l h approx′ detail′ scratch′ : List Float} (zeros : List Float) → noBorder border ≡ false → number ≡ 0 → b ≡ borderOf border
-      → l ≡ placed (at low) 0 (length low) zeros → h ≡ placed (at high) 0 (length high) zeros
-      → approx′ ≡ band binary64 l f b line → detail′ ≡ band binary64 h f b line → scratch′ ≡ paddedInto f b line scratch
+  pub analysis-lent : number ≡ 0 → Lent f (length low) (length high)
+  analysis-lent z = lent _ _ taps (analysis-lists z)
+
+  pub analysis-done : {b : Border} {approx′ detail′ scratch′ : List Float} → noBorder border ≡ false → number ≡ 0 → b ≡ borderOf border
+      → approx′ ≡ band binary64 low f b line → detail′ ≡ band binary64 high f b line → scratch′ ≡ paddedInto f b line scratch
       → AnalysisTold border low high line approx detail scratch words 0 approx′ detail′ scratch′ words′
-  analysis-done {b} {l} {h} zeros e z named el eh ea ed es =
-      let p = analysis-lists z in
-      let F = length low in
-      let count = taps ∙ p .count in
-      let lows = band-same binary64 l low F b line (copied low F zeros el refl) in
-      let highs = band-same binary64 h high F b line (copied high F zeros eh (p .both)) in
+  analysis-done {b} e z named ea ed es =
+      let count = taps ∙ analysis-lists z .count in
       record { told = under border e (renamed (sym z) by-lists); approxes = (cc); details = (cc); scratched = (cc) }
 
 pub analysis-hidden : (border : ℕ) (low high line approx detail scratch : List Float) {words words′ : List ℕ} {r : ℕ}
@@ -83,24 +79,22 @@ module _ (low high approx detail out : List Float) {words words′ : List ℕ} {
       Told (Syntheses.numberOf r) (Syntheses.valuesOf r) words number words′
   of-lists = told-as Syntheses.numberOf Syntheses.valuesOf (sym (tested ∙ ap (λ (k : ℕ). Syntheses.answerOf k (length approx) (length detail) (length out)) taps)) t
 
-  pub synthesis-ready : number ≡ 0 → Joinable f (length approx) (length detail) (length out)
-  synthesis-ready z = joinable _ _ _ _ (sym tested ∙ done-synthesis a (sym (t .given) ∙ z))
+  done-tests : number ≡ 0 → Joinable f (length approx) (length detail) (length out)
+  done-tests z = joinable _ _ _ _ (sym tested ∙ done-synthesis a (sym (t .given) ∙ z))
 
-  pub synthesis-lists : number ≡ 0 → Paired (length low) (length high)
-  synthesis-lists z = listed _ _ taps (synthesis-ready z .two)
+  synthesis-lists : number ≡ 0 → Paired (length low) (length high)
+  synthesis-lists z = listed _ _ taps (done-tests z .two)
+
+  pub synthesis-ready : number ≡ 0 → Taking f (length low) (length high) (length approx) (length detail) (length out)
+  synthesis-ready z =
+      let b = lent _ _ taps (synthesis-lists z) in
+      record { all = done-tests z; lows = b .lows; highs = b .highs }
 
   pub synthesis-refused : (number ≡ 0 → ⊥) → SynthesisTold low high approx detail out words number out words′
   synthesis-refused n = record { told = of-lists; joined = kept number (positive number n) _ out }
 
-  pub synthesis-done : {l h out′ : List Float} (zeros : List Float) → number ≡ 0
-      → l ≡ placed (at low) 0 (length low) zeros → h ≡ placed (at high) 0 (length high) zeros
-      → out′ ≡ synthesised binary64 f l h approx detail out → SynthesisTold low high approx detail out words 0 out′ words′
-  synthesis-done {l} {h} zeros z el eh eo =
-      let p = synthesis-lists z in
-      let F = length low in
-      let count = taps ∙ p .count in
-      let lists = synthesised-same binary64 F l low h high approx detail out (copied low F zeros el refl) (copied high F zeros eh (p .both)) in
-      record { told = renamed (sym z) of-lists; joined = (cc) }
+  pub synthesis-done : {out′ : List Float} → number ≡ 0 → out′ ≡ synthesised binary64 f low high approx detail out → SynthesisTold low high approx detail out words 0 out′ words′
+  synthesis-done z eo = let count = taps ∙ synthesis-lists z .count in record { told = renamed (sym z) of-lists; joined = (cc) }
 
 -- ---- convolution
 pub convolution-told : {border : ℕ} {line out scratch kernel : List Float} {c c′ : ℤ} {words words′ : List ℕ} {r : ℕ} {b : Border} {a : Convolution} {out′ scratch′ : List Float}

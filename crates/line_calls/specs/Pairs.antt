@@ -1,18 +1,14 @@
--- Laws of two tap lists: those that have taps are of one length and pass the test of a bank, and an array that one was copied to reads as it does.
+-- Laws of two tap lists: those that have taps are of one length and pass the test of a bank, and may be lent as they are.
 use mathlib.Core.Path.{_≡_, refl, sym, ap, _∙_}
 use mathlib.Core.Bool.{Bool, true, false, cond, not, _||_}
-use mathlib.Core.List.{List}
-use Prim.Native.Nat.{ℕ, _≤_, _<_}
+use Prim.Native.Nat.{ℕ, _≤_}
 use native.Mathlib.Omega.{arith}
 use borrow.Author.Tests.{eqb-true, not-false}
 use lib.Dec.{eqb}
-use lib.ListN.{length}
-use lib.Ieee.{Float, nan}
-use Rattle.numbers.specs.Words.{at, placed, whenDone}
-use Rattle.numbers.specs.Places.{getD-written-in, placed-front}
+use Rattle.numbers.specs.Words.{whenDone}
 use Rattle.numbers.specs.Tests.{neither}
 use Rattle.bank.specs.declared.making.Making.the-variants.{Taps, Done}
-use Rattle.bank.specs.Lengths.{badTaps, GoodTaps}
+use Rattle.bank.specs.Lengths.{badTaps, GoodTaps, Lent}
 use Rattle.bank.specs.Banks as Banks
 use Rattle.bank.specs.Tested.{good-taps}
 use Rattle.line_calls.specs.Lines.{tapsOf}
@@ -57,6 +53,6 @@ module _ (low high : ℕ) where
           let q = sym (counted e) ∙ z in
           absurd (omega arith)
 
--- an array that a list was copied to reads as the list does
-pub copied : (l : List Float) (n : ℕ) (old : List Float) {array : List Float} → array ≡ placed (at l) 0 (length l) old → length l ≡ n → (j : ℕ) → j < n → at array j ≡ at l j
-copied l n old e q j h = ap (λ (x : List Float). at x j) (e ∙ placed-front (at l) (length l) old) ∙ getD-written-in (at l) (length l) old j nan (omega (arith, q))
+-- and may be lent as they are
+pub lent : {f : ℕ} (low high : ℕ) → f ≡ tapsOf low high → Paired low high → Lent f low high
+lent low high taps p = let e = taps ∙ p .count in record { lows = omega (arith, e); highs = omega (arith, e, p .both) }

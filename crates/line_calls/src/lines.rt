@@ -3,8 +3,6 @@ ghost use Rattle.line_calls.specs.Lines.{AnalysisTold, SynthesisTold, Co
 use crate::taps::taps_of;
 use analysis::analysis_answer;
 use analysis::work::line_bands;
-use border::pad::copy_line;
-use border::pad::copy_to;
 use line_telling::told;
 use synthesis::synthesis_answer;
 use synthesis::work::join;
@@ -12,10 +10,10 @@ use telling::borders::border_of;
 use telling::borders::no_border;
 use telling::told::one;
 
-pub fn analyse(
+pub fn analyse<'a>(
     border: usize,
-    low: &[f64],
-    high: &[f64],
+    low: &'a [f64],
+    high: &'a [f64],
     line: &[f64],
     approx: &mut [f64],
     detail: &mut [f64],
@@ -34,18 +32,23 @@ pub fn analyse(
     if number != 0 {
         return number;
     }
-    let mut l = [0.0f64; 64];
-    let mut h = [0.0f64; 64];
-    copy_line(low, &mut l, 0);
-    copy_line(high, &mut h, 0);
-    line_bands(&l, &h, f, border_of(border), line, approx, detail, scratch);
+    line_bands(
+        low,
+        high,
+        f,
+        border_of(border),
+        line,
+        approx,
+        detail,
+        scratch,
+    );
     0
 }
 
 // No border: synthesis reads none.
-pub fn synthesise(
-    low: &[f64],
-    high: &[f64],
+pub fn synthesise<'a>(
+    low: &'a [f64],
+    high: &'a [f64],
     approx: &[f64],
     detail: &[f64],
     out: &mut [f64],
@@ -59,11 +62,7 @@ pub fn synthesise(
     if number != 0 {
         return number;
     }
-    let mut l = [0.0f64; 64];
-    let mut h = [0.0f64; 64];
-    copy_to(low, &mut l, 0);
-    copy_to(high, &mut h, 0);
-    join(&l, &h, f, approx, detail, out);
+    join(low, high, f, approx, detail, out);
     0
 }
 

@@ -2,4 +2,5 @@
 pub mod Words
 pub mod Write
 pub mod Places
+pub mod Runs
 pub mod Tests

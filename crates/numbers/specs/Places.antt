@@ -83,16 +83,10 @@ module _ {A : Type 0} where
     front : length (take a x) ≡ a
     front = length-take-le a x (omega arith)
 
-    pub lent-before : (j : ℕ) → j < a → getD (putMid a (e - a) x ys) j d ≡ getD x j d
+    lent-before : (j : ℕ) → j < a → getD (putMid a (e - a) x ys) j d ≡ getD x j d
     lent-before j l = List·getD-append (take a x) _ d j (omega (arith, front)) ∙ getD-take a x j d l
 
-    pub lent-in : (i : ℕ) → i < e - a → getD (putMid a (e - a) x ys) (a + i) d ≡ getD ys i d
-    lent-in i l =
-        ap (λ (n : ℕ). getD (putMid a (e - a) x ys) (n + i) d) (sym front)
-        ∙ getD-append-add (take a x) (ys ++ drop (e - a) (drop a x)) i d
-        ∙ List·getD-append ys _ d i (omega (arith, q))
-
-    pub lent-behind : (j : ℕ) → e ≤ j → getD (putMid a (e - a) x ys) j d ≡ getD x j d
+    lent-behind : (j : ℕ) → e ≤ j → getD (putMid a (e - a) x ys) j d ≡ getD x j d
     lent-behind j l =
         let r = j - e in
         let t : length (take a x) + (length ys + r) ≡ j = omega (arith, front, q) in

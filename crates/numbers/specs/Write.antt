@@ -56,13 +56,6 @@ module _ {A : Type 0} where
       → set l i v ≡ written g (i + 1) x
   written-step g i x h e q = cc (written-more g i x h)
 
-  -- two places a turn
-  pub written-two : (g : ℕ → A) (i : ℕ) (x : List A) {l : List A} {u v : A} → i + 1 < length x → l ≡ written g i x → u ≡ g i → v ≡ g (i + 1)
-      → set (set l i u) (i + 1) v ≡ written g (i + 2) x
-  written-two g i x h e p q =
-      let two : i + 1 + 1 ≡ i + 2 = omega arith in
-      written-step g (i + 1) x h (written-step g i x (omega arith) e p) q ∙ ap (λ (k : ℕ). written g k x) two
-
   pub written-end : (g : ℕ → A) (i n : ℕ) (x : List A) {l : List A} → l ≡ written g i x → i ≤ n → n ≤ i → l ≡ written g n x
   written-end g i n x e h k = let q : i ≡ n = omega arith in rw (← q) e
 
@@ -110,16 +103,6 @@ module _ {A : Type 0} where
       ∙ ap (λ (k : ℕ). set (take s x ++ written g i (drop s x)) (k + i) v) (sym t)
       ∙ set-append-add (take s x) (written g i (drop s x)) i v
       ∙ ap (λ (y : List A). take s x ++ y) m
-
-  -- the same by the place x itself
-  pub placed-turn : (g : ℕ → A) (s x : ℕ) (old : List A) {l : List A} {v : A} → s ≤ x → x < length old → l ≡ placed (λ k. g (s + k)) s (x - s) old → v ≡ g x
-      → set l x v ≡ placed (λ k. g (s + k)) s (x + 1 - s) old
-  placed-turn g s x old {l} {v} h k e q =
-      let there : s + (x - s) ≡ x = omega arith in
-      let next : x - s + 1 ≡ x + 1 - s = omega arith in
-      ap (λ (i : ℕ). set l i v) (sym there)
-      ∙ placed-step (λ k. g (s + k)) s (x - s) old (omega arith) e (q ∙ ap g (sym there))
-      ∙ ap (λ (i : ℕ). placed (λ k. g (s + k)) s i old) next
 
   pub placed-end : (g : ℕ → A) (s i n : ℕ) (x : List A) {l : List A} → l ≡ placed g s i x → i ≤ n → n ≤ i → l ≡ placed g s n x
   placed-end g s i n x e h k = let q : i ≡ n = omega arith in rw (← q) e

@@ -68,8 +68,8 @@ pub fn analyse_plane(
         return answer;
     };
     let border = bank.border;
-    let low = bank.low;
-    let high = bank.high;
-    split_plane(&low, &high, f, border, plane, w, h, ll, lh, hl, hh, scratch);
+    let low = &bank.low;
+    let high = &bank.high;
+    split_plane(low, high, f, border, plane, w, h, ll, lh, hl, hh, scratch);
     Planes::Done
 }

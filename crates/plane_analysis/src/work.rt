@@ -4,7 +4,7 @@ ghost use mathlib.Core.Path.{_≡_};
 ghost use Prim.Native.Nat.{_+_};
 ghost use lib.ListN.{length};
 ghost use lib.Ieee.{binary64};
-ghost use Rattle.bank.specs.Lengths.{paddedLength};
+ghost use Rattle.bank.specs.Lengths.{paddedLength, Lent};
 ghost use Rattle.plane_analysis.specs.Works.{lineBands, Rowing, Rowed, Columning, Still, Analysing, Split};
 use analysis::work::bands;
 use analysis::work::bands_within;
@@ -15,8 +15,8 @@ use tables::cross;
 
 // Both bands of each row.
 fn rows(
-    low: &[f64; 64],
-    high: &[f64; 64],
+    low: &[f64],
+    high: &[f64],
     f: usize,
     border: Border,
     plane: &[f64],
@@ -26,7 +26,7 @@ fn rows(
     start: usize,
     scratch: &mut [f64],
 )
-    requires { ⌜ Rowing f width height m (length (now plane)) (length (now scratch)) start ⌝ }
+    requires { ⌜ Lent f (length (now low)) (length (now high)) × Rowing f width height m (length (now plane)) (length (now scratch)) start ⌝ }
     ensures { λ _. ⌜ Rowed binary64 (now (low .entry)) (now (high .entry)) f border (now (plane .entry)) width height m (start + paddedLength width f) (now (scratch .entry)) (now (scratch .exit)) ⌝ }
 {
     let end = start + (2 * m + f - 2);
@@ -42,8 +42,8 @@ fn rows(
 
 // Both bands of m lines of `height` numbers that lie in the scratch from `base` on.
 fn columns(
-    low: &[f64; 64],
-    high: &[f64; 64],
+    low: &[f64],
+    high: &[f64],
     f: usize,
     border: Border,
     scratch: &mut [f64],
@@ -54,7 +54,7 @@ fn columns(
     lo: &mut [f64],
     hi: &mut [f64],
 )
-    requires { ⌜ Columning f base m height start (length (now scratch)) (length (now lo)) (length (now hi)) ⌝ }
+    requires { ⌜ Lent f (length (now low)) (length (now high)) × Columning f base m height start (length (now scratch)) (length (now lo)) (length (now hi)) ⌝ }
     ensures { λ _. ⌜ (now (lo .exit) ≡ lineBands binary64 (now (low .entry)) f border base m height (now (scratch .entry)))
         × (now (hi .exit) ≡ lineBands binary64 (now (high .entry)) f border base m height (now (scratch .entry)))
         × Still start (start + paddedLength height f) (now (scratch .entry)) (now (scratch .exit)) ⌝ }
@@ -87,9 +87,9 @@ fn columns(
 }
 
 // All four bands.
-pub fn split_plane(
-    low: &[f64; 64],
-    high: &[f64; 64],
+pub fn split_plane<'a>(
+    low: &'a [f64],
+    high: &'a [f64],
     f: usize,
     border: Border,
     plane: &[f64],
@@ -101,7 +101,7 @@ pub fn split_plane(
     hh: &mut [f64],
     scratch: &mut [f64],
 )
-    requires { ⌜ Analysing width height f (length (now plane)) (length (now scratch)) (length (now ll)) (length (now lh)) (length (now hl)) (length (now hh)) ⌝ }
+    requires { ⌜ Lent f (length (now low)) (length (now high)) × Analysing width height f (length (now plane)) (length (now scratch)) (length (now ll)) (length (now lh)) (length (now hl)) (length (now hh)) ⌝ }
     ensures { λ _. ⌜ Split binary64 (now (low .entry)) (now (high .entry)) f border (now (plane .entry)) width height (now (scratch .entry))
         (now (ll .exit)) (now (lh .exit)) (now (hl .exit)) (now (hh .exit)) (now (scratch .exit)) ⌝ }
 {

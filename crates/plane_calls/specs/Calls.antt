@@ -1,29 +1,28 @@
--- Laws of the calls on planes: the entries' tests, and their work over arrays that the caller's lists were copied to, give what is promised over those lists.
-use mathlib.Core.Path.{_≡_, refl, sym, ap, _∙_}
+-- Laws of the calls on planes: the entries' tests, and their work over the caller's lists, give what is promised over the lists.
+use mathlib.Core.Path.{_≡_, sym, ap, _∙_}
 use mathlib.Core.Bool.{true, false}
 use mathlib.Core.List.{List, [], _∷_}
 use Prim.Native.Nat.{ℕ}
 use lib.ListN.{length}
 use lib.Ieee.{Float, binary64}
-use Rattle.numbers.specs.Words.{at, placed}
+use Rattle.numbers.specs.Words.{at}
 use Rattle.numbers.specs.Tests.{kept}
 use Rattle.border.specs.declared.Border.{Border}
 use Rattle.planes.specs.declared.Planes.{Planes}
 use Rattle.planes.specs.Answers.{numberOf, valuesOf}
 use Rattle.planes.specs.Tested.{done-alone, untouched, touched}
 use Rattle.plane_analysis.specs.Analyses as Analyses
-use Rattle.plane_analysis.specs.Taps.{plane-same}
 use Rattle.plane_analysis.specs.Tested.{analysing}
+use Rattle.bank.specs.Lengths.{Lent}
 use Rattle.plane_analysis.specs.Works.{Analysing, Split}
 use Rattle.plane_synthesis.specs.Syntheses as Syntheses
-use Rattle.plane_synthesis.specs.Taps.{joined-same}
 use Rattle.plane_synthesis.specs.Tested.{synthesising}
 use Rattle.plane_synthesis.specs.Works.{Synthesising, Joined}
 use Rattle.telling.specs.Told.{Told}
 use Rattle.telling.specs.Borders.{borderOf, noBorder}
 use Rattle.telling.specs.Telling.{told-as, under, hidden, positive, left-alone, renamed}
 use Rattle.line_calls.specs.Lines.{tapsOf}
-use Rattle.line_calls.specs.Pairs.{Paired, listed, copied}
+use Rattle.line_calls.specs.Pairs.{Paired, listed, lent}
 use Rattle.plane_calls.specs.FourBands.{PlaneAnalysisTold, PlaneSynthesisTold}
 
 -- ---- analysis
@@ -42,7 +41,7 @@ module _ (border : ℕ) (low high plane : List Float) (w h : ℕ) (ll lh hl hh s
   pub analysis-ready : number ≡ 0 → Analysing w h f (length plane) (length scratch) (length ll) (length lh) (length hl) (length hh)
   analysis-ready z = analysing _ _ _ _ _ _ _ _ _ (sym tested ∙ done-alone a (sym (t .given) ∙ z))
 
-  pub analysis-lists : number ≡ 0 → Paired (length low) (length high)
+  analysis-lists : number ≡ 0 → Paired (length low) (length high)
   analysis-lists z = listed _ _ taps (analysis-ready z .held .sides .taps .two)
 
   pub analysis-refused : noBorder border ≡ false → (number ≡ 0 → ⊥)
@@ -58,20 +57,14 @@ module _ (border : ℕ) (low high plane : List Float) (w h : ℕ) (ll lh hl hh s
         scratched = untouched number _ scratch;
       }
 
-  pub analysis-done : {b : Border} {l d ll′ lh′ hl′ hh′ scratch′ : List Float} (zeros : List Float) → noBorder border ≡ false → number ≡ 0 → b ≡ borderOf border
-      → l ≡ placed (at low) 0 (length low) zeros → d ≡ placed (at high) 0 (length high) zeros
-      → Split binary64 l d f b plane w h scratch ll′ lh′ hl′ hh′ scratch′
+  pub analysis-lent : number ≡ 0 → Lent f (length low) (length high)
+  analysis-lent z = lent _ _ taps (analysis-lists z)
+
+  pub analysis-done : {b : Border} {ll′ lh′ hl′ hh′ scratch′ : List Float} → noBorder border ≡ false → number ≡ 0 → b ≡ borderOf border
+      → Split binary64 low high f b plane w h scratch ll′ lh′ hl′ hh′ scratch′
       → PlaneAnalysisTold border low high plane w h ll lh hl hh scratch words 0 ll′ lh′ hl′ hh′ scratch′ words′
-  analysis-done {b} {l} {d} zeros e z named el ed s =
-      let p = analysis-lists z in
-      let F = length low in
-      let count = taps ∙ p .count in
-      let lows = copied low F zeros el refl in
-      let highs = copied high F zeros ed (p .both) in
-      let same-ll = plane-same binary64 F b plane w h l low lows l low lows in
-      let same-lh = plane-same binary64 F b plane w h l low lows d high highs in
-      let same-hl = plane-same binary64 F b plane w h d high highs l low lows in
-      let same-hh = plane-same binary64 F b plane w h d high highs d high highs in
+  analysis-done {b} e z named s =
+      let count = taps ∙ analysis-lists z .count in
       let ll-of = s .lls in
       let lh-of = s .lhs in
       let hl-of = s .hls in
@@ -112,21 +105,19 @@ module _ (low high ll lh hl hh : List Float) (w h : ℕ) (plane scratch : List F
   pub synthesis-ready : number ≡ 0 → Synthesising w h f (length plane) (length scratch) (length ll) (length lh) (length hl) (length hh)
   synthesis-ready z = synthesising _ _ _ _ _ _ _ _ _ (sym tested ∙ done-alone a (sym (t .given) ∙ z))
 
-  pub synthesis-lists : number ≡ 0 → Paired (length low) (length high)
+  synthesis-lists : number ≡ 0 → Paired (length low) (length high)
   synthesis-lists z = listed _ _ taps (synthesis-ready z .held .sides .taps .two)
+
+  pub synthesis-lent : number ≡ 0 → Lent f (length low) (length high)
+  synthesis-lent z = lent _ _ taps (synthesis-lists z)
 
   pub synthesis-refused : (number ≡ 0 → ⊥) → PlaneSynthesisTold low high ll lh hl hh w h plane scratch words number plane scratch words′
   synthesis-refused n = record { told = of-lists; joined = kept number (positive number n) _ plane; scratched = untouched number _ scratch }
 
-  pub synthesis-done : {l d plane′ scratch′ : List Float} (zeros : List Float) → number ≡ 0
-      → l ≡ placed (at low) 0 (length low) zeros → d ≡ placed (at high) 0 (length high) zeros
-      → Joined binary64 f l d w h ll lh hl hh scratch plane′ scratch′
+  pub synthesis-done : {plane′ scratch′ : List Float} → number ≡ 0 → Joined binary64 f low high w h ll lh hl hh scratch plane′ scratch′
       → PlaneSynthesisTold low high ll lh hl hh w h plane scratch words 0 plane′ scratch′ words′
-  synthesis-done {l} {d} zeros z el ed s =
-      let p = synthesis-lists z in
-      let F = length low in
-      let count = taps ∙ p .count in
-      let same = joined-same binary64 F l low d high (copied low F zeros el refl) (copied high F zeros ed (p .both)) w h ll lh hl hh in
+  synthesis-done z s =
+      let count = taps ∙ synthesis-lists z .count in
       let plane-of = s .joined in
       record {
         told = renamed (sym z) of-lists;

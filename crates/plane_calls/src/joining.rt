@@ -1,15 +1,14 @@
 // A plane from its four bands, for C: the entry's tests and work over the caller's own taps, so that no bank is made and copied in a call.
 ghost use Rattle.plane_calls.specs.FourBands.{PlaneSynthesisTold};
-use border::pad::copy_to;
 use line_calls::taps::taps_of;
 use plane_synthesis::plane_synthesis_answer;
 use plane_synthesis::work::join_plane;
 use plane_telling::plane_told;
 
 // No border: synthesis reads none.
-pub fn synthesise_plane(
-    low: &[f64],
-    high: &[f64],
+pub fn synthesise_plane<'a>(
+    low: &'a [f64],
+    high: &'a [f64],
     ll: &[f64],
     lh: &[f64],
     hl: &[f64],
@@ -39,10 +38,6 @@ pub fn synthesise_plane(
     if number != 0 {
         return number;
     }
-    let mut l = [0.0f64; 64];
-    let mut h = [0.0f64; 64];
-    copy_to(low, &mut l, 0);
-    copy_to(high, &mut h, 0);
-    join_plane(&l, &h, f, ll, lh, hl, hh, width, height, plane, scratch);
+    join_plane(low, high, f, ll, lh, hl, hh, width, height, plane, scratch);
     0
 }

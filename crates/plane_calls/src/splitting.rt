@@ -1,6 +1,5 @@
 // The four bands of a plane, for C: the entry's tests and work over the caller's own taps, so that no bank is made and copied in a call.
 ghost use Rattle.plane_calls.specs.FourBands.{PlaneAnalysisTold};
-use border::pad::copy_to;
 use line_calls::taps::taps_of;
 use plane_analysis::plane_analysis_answer;
 use plane_analysis::work::split_plane;
@@ -9,10 +8,10 @@ use telling::borders::border_of;
 use telling::borders::no_border;
 use telling::told;
 
-pub fn analyse_plane(
+pub fn analyse_plane<'a>(
     border: usize,
-    low: &[f64],
-    high: &[f64],
+    low: &'a [f64],
+    high: &'a [f64],
     plane: &[f64],
     width: usize,
     height: usize,
@@ -45,13 +44,9 @@ pub fn analyse_plane(
     if number != 0 {
         return number;
     }
-    let mut l = [0.0f64; 64];
-    let mut h = [0.0f64; 64];
-    copy_to(low, &mut l, 0);
-    copy_to(high, &mut h, 0);
     split_plane(
-        &l,
-        &h,
+        low,
+        high,
         f,
         border_of(border),
         plane,

@@ -88,8 +88,8 @@ pub fn synthesise_plane(
     let Planes::Done = answer else {
         return answer;
     };
-    let low = bank.low;
-    let high = bank.high;
-    join_plane(&low, &high, f, ll, lh, hl, hh, w, h, plane, scratch);
+    let low = &bank.low;
+    let high = &bank.high;
+    join_plane(low, high, f, ll, lh, hl, hh, w, h, plane, scratch);
     Planes::Done
 }

@@ -3,17 +3,17 @@
 ghost use mathlib.Core.Path.{_≡_};
 ghost use lib.ListN.{length};
 ghost use lib.Ieee.{binary64};
-ghost use Rattle.bank.specs.Lengths.{pairs};
+ghost use Rattle.bank.specs.Lengths.{pairs, Lent};
 ghost use Rattle.tables.specs.Tables.{stored};
 ghost use Rattle.plane_synthesis.specs.Joins.{columnJoin};
 ghost use Rattle.plane_synthesis.specs.Works.{Joins, stepJoin, Columning, Rowing, rowHeld, Synthesising, Joined};
-use synthesis::work::join_anew;
+use synthesis::work::join_cleared;
 use tables::cross;
 
 // So many lines of n places, one after another: line c joined from m numbers of either list, `step` numbers further for each line.
-fn joins(
-    low: &[f64; 64],
-    high: &[f64; 64],
+fn joins<'a>(
+    low: &'a [f64],
+    high: &'a [f64],
     f: usize,
     lo: &[f64],
     hi: &[f64],
@@ -22,11 +22,9 @@ fn joins(
     count: usize,
     out: &mut [f64],
 )
-    requires { ⌜ Joins f (length (now lo)) (length (now hi)) step n count (length (now out)) ⌝ }
+    requires { ⌜ Lent f (length (now low)) (length (now high)) × Joins f (length (now lo)) (length (now hi)) step n count (length (now out)) ⌝ }
     ensures { λ _. ⌜ now (out .exit) ≡ stored (stepJoin binary64 f (now (low .entry)) (now (high .entry)) step n (now (lo .entry)) (now (hi .entry))) count ⌝ }
 {
-    let l = *low;
-    let h = *high;
     let m = (n + f - 1) / 2;
     let mut c = 0usize;
     while c < count {
@@ -34,9 +32,9 @@ fn joins(
         let to = from + m;
         let start = c * n;
         let end = start + n;
-        join_anew(
-            &l,
-            &h,
+        join_cleared(
+            low,
+            high,
             f,
             &lo[from..to],
             &hi[from..to],
@@ -47,9 +45,9 @@ fn joins(
 }
 
 // Each column of two bands joined, one after another.
-fn columns(
-    low: &[f64; 64],
-    high: &[f64; 64],
+fn columns<'a>(
+    low: &'a [f64],
+    high: &'a [f64],
     f: usize,
     lo: &[f64],
     hi: &[f64],
@@ -57,7 +55,7 @@ fn columns(
     height: usize,
     out: &mut [f64],
 )
-    requires { ⌜ Columning width height f (length (now lo)) (length (now hi)) (length (now out)) ⌝ }
+    requires { ⌜ Lent f (length (now low)) (length (now high)) × Columning width height f (length (now lo)) (length (now hi)) (length (now out)) ⌝ }
     ensures { λ _. ⌜ now (out .exit) ≡ stored (columnJoin binary64 f (now (low .entry)) (now (high .entry)) height (now (lo .entry)) (now (hi .entry))) (pairs width f) ⌝ }
 {
     let m = (width + f - 1) / 2;
@@ -66,16 +64,16 @@ fn columns(
 }
 
 // Each row joined from its bands, which lie one row after another, the approximations first.
-fn rows(
-    low: &[f64; 64],
-    high: &[f64; 64],
+fn rows<'a>(
+    low: &'a [f64],
+    high: &'a [f64],
     f: usize,
     bands: &[f64],
     width: usize,
     height: usize,
     plane: &mut [f64],
 )
-    requires { ⌜ Rowing width height f (length (now bands)) (length (now plane)) ⌝ }
+    requires { ⌜ Lent f (length (now low)) (length (now high)) × Rowing width height f (length (now bands)) (length (now plane)) ⌝ }
     ensures { λ _. ⌜ now (plane .exit) ≡ stored (rowHeld binary64 f (now (low .entry)) (now (high .entry)) width (pairs width f) (now (bands .entry))) height ⌝ }
 {
     let m = (width + f - 1) / 2;
@@ -93,9 +91,9 @@ fn rows(
 }
 
 // The whole plane.
-pub fn join_plane(
-    low: &[f64; 64],
-    high: &[f64; 64],
+pub fn join_plane<'a>(
+    low: &'a [f64],
+    high: &'a [f64],
     f: usize,
     ll: &[f64],
     lh: &[f64],
@@ -106,7 +104,7 @@ pub fn join_plane(
     plane: &mut [f64],
     scratch: &mut [f64],
 )
-    requires { ⌜ Synthesising width height f (length (now plane)) (length (now scratch)) (length (now ll)) (length (now lh)) (length (now hl)) (length (now hh)) ⌝ }
+    requires { ⌜ Lent f (length (now low)) (length (now high)) × Synthesising width height f (length (now plane)) (length (now scratch)) (length (now ll)) (length (now lh)) (length (now hl)) (length (now hh)) ⌝ }
     ensures { λ _. ⌜ Joined binary64 f (now (low .entry)) (now (high .entry)) width height (now (ll .entry)) (now (lh .entry)) (now (hl .entry)) (now (hh .entry)) (now (scratch .entry))
         (now (plane .exit)) (now (scratch .exit)) ⌝ }
 {

@@ -51,9 +51,9 @@ pub fn restore_levels(
     let Levels::Done = answer else {
         return answer;
     };
-    let low = bank.low;
-    let high = bank.high;
-    restore(&low, &high, f, packed, n, most(levels, 1), first, second);
+    let low = &bank.low;
+    let high = &bank.high;
+    restore(low, high, f, packed, n, most(levels, 1), first, second);
     Levels::Done
 }
 

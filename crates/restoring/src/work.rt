@@ -2,21 +2,22 @@
 ghost use mathlib.Core.Path.{_≡_};
 ghost use lib.ListN.{length};
 ghost use lib.Ieee.{binary64};
+ghost use Rattle.bank.specs.Lengths.{Lent};
 ghost use Rattle.restoring.specs.Lines.{joinOf, laid, firstAfter, secondAfter};
 ghost use Rattle.restoring.specs.Works.{lineHeld, turnFirst, turnSecond, Joining, Turning, Restoring};
 use packed::depth::part_of;
 use synthesis::work::join_cleared;
 
 // One join at the front of a buffer: the line trimmed to as many as the details, the output cleared.
-fn join_front(
-    low: &[f64; 64],
-    high: &[f64; 64],
+fn join_front<'a>(
+    low: &'a [f64],
+    high: &'a [f64],
     f: usize,
     line: &[f64],
     detail: &[f64],
     out: &mut [f64],
 )
-    requires { ⌜ Joining f (length (now line)) (length (now detail)) (length (now out)) ⌝ }
+    requires { ⌜ Lent f (length (now low)) (length (now high)) × Joining f (length (now line)) (length (now detail)) (length (now out)) ⌝ }
     ensures { λ _. ⌜ now (out .exit) ≡ laid (joinOf binary64 f (now (low .entry)) (now (high .entry)) (now (line .entry)) (now (detail .entry))) (now (out .entry)) ⌝ }
 {
     let m = detail.len();
@@ -25,9 +26,9 @@ fn join_front(
 }
 
 // Join j, the deepest being 0: the last approximations into the first buffer, then the front of either buffer into the other.
-fn join_level(
-    low: &[f64; 64],
-    high: &[f64; 64],
+fn join_level<'a>(
+    low: &'a [f64],
+    high: &'a [f64],
     f: usize,
     deepest: &[f64],
     detail: &[f64],
@@ -35,7 +36,7 @@ fn join_level(
     first: &mut [f64],
     second: &mut [f64],
 )
-    requires { ⌜ Turning f (length (now deepest)) (length (now detail)) j (length (now first)) (length (now second)) ⌝ }
+    requires { ⌜ Lent f (length (now low)) (length (now high)) × Turning f (length (now deepest)) (length (now detail)) j (length (now first)) (length (now second)) ⌝ }
     ensures { λ _. ⌜ (now (first .exit) ≡ turnFirst binary64 f (now (low .entry)) (now (high .entry)) (lineHeld (now (deepest .entry)) (now (first .entry)) (now (second .entry)) j) (now (detail .entry)) j (now (first .entry)))
         × (now (second .exit) ≡ turnSecond binary64 f (now (low .entry)) (now (high .entry)) (lineHeld (now (deepest .entry)) (now (first .entry)) (now (second .entry)) j) (now (detail .entry)) j (now (second .entry))) ⌝ }
 {
@@ -49,9 +50,9 @@ fn join_level(
 }
 
 // Every level, from the deepest up.
-pub fn restore(
-    low: &[f64; 64],
-    high: &[f64; 64],
+pub fn restore<'a>(
+    low: &'a [f64],
+    high: &'a [f64],
     f: usize,
     packed: &[f64],
     n: usize,
@@ -59,7 +60,7 @@ pub fn restore(
     first: &mut [f64],
     second: &mut [f64],
 )
-    requires { ⌜ Restoring n f levels (length (now packed)) (length (now first)) (length (now second)) ⌝ }
+    requires { ⌜ Lent f (length (now low)) (length (now high)) × Restoring n f levels (length (now packed)) (length (now first)) (length (now second)) ⌝ }
     ensures { λ _. ⌜ (now (first .exit) ≡ firstAfter binary64 f (now (low .entry)) (now (high .entry)) (now (packed .entry)) n levels levels (now (first .entry)))
         × (now (second .exit) ≡ secondAfter binary64 f (now (low .entry)) (now (high .entry)) (now (packed .entry)) n levels levels (now (second .entry))) ⌝ }
 {

@@ -15,7 +15,8 @@ unfoldable pub tapSum : Format → List Float → List Float → ℕ → ℕ →
 unfolding dot
 tapSum f taps line from k = dot f (at taps) (λ j. at line (from + j)) k
 
--- f taps over a padded line, from a place on
-pub record Placeable (f padded from : ℕ) : Type 0 where
-  pub most : f ≤ 64
+-- the first f of two lists of taps, over a padded line from a place on
+pub record Placeable (f low high padded from : ℕ) : Type 0 where
+  pub lows : f ≤ low
+  pub highs : f ≤ high
   pub within : from + f ≤ padded

@@ -1,4 +1,6 @@
 // Both sums of one place, over the samples of a padded line: what every band is made of.
+pub mod eights;
+
 ghost use mathlib.Core.Path.{_≡_};
 ghost use lib.ListN.{length};
 ghost use lib.Ieee.{binary64, add, mul};
@@ -21,8 +23,8 @@ pub fn tap(sums: Pair, low: f64, high: f64, x: f64) -> Pair
 }
 
 // Both sums over the padded samples from `from` on.
-pub fn place(low: &[f64; 64], high: &[f64; 64], f: usize, padded: &[f64], from: usize) -> Pair
-    requires { ⌜ Placeable f (length (now padded)) from ⌝ }
+pub fn place(low: &[f64], high: &[f64], f: usize, padded: &[f64], from: usize) -> Pair
+    requires { ⌜ Placeable f (length (now low)) (length (now high)) (length (now padded)) from ⌝ }
     ensures { λ r. ⌜ (r .approx ≡ tapSum binary64 (now (low .entry)) (now (padded .entry)) from f) × (r .detail ≡ tapSum binary64 (now (high .entry)) (now (padded .entry)) from f) ⌝ }
 {
     let mut sums = Pair {

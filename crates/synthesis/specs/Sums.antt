@@ -4,7 +4,7 @@ use Prim.Native.Nat.{ℕ, zero, suc, _+_, _-_, _*_}
 use mathlib.Core.Bool.{Bool, cond, _&&_}
 use lib.Dec.{leb, ltb}
 use lib.Ieee.{Float, Format}
-use Rattle.spreading.specs.Pairs.{onto}
+use Rattle.gathering.specs.Pairs.{onto}
 
 -- pair i reaches padded place P by its tap P - 2 i, if that lies in 0 .. F - 1
 abbrev pub meets : ℕ → ℕ → ℕ → Bool

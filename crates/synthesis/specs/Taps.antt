@@ -1,16 +1,13 @@
 -- Laws of the taps: synthesis reads no tap but the first F, since a pair reaches a place by one of those or not at all.
 use mathlib.Core.Path.{_≡_, refl, ap, _∙_}
 use mathlib.Core.List.{List}
-use Prim.Native.Nat.{ℕ, zero, suc, _+_, _-_, _*_, _≤_, _<_}
-use native.Mathlib.Omega.{arith}
-use lib.ListN.{length, take}
-use lib.Seq.{length-take-le, getD-take}
-use lib.Ieee.{Float, Format, add, mul, nan}
-use Rattle.numbers.specs.Words.{at, placed}
-use Rattle.numbers.specs.Write.{length-written}
-use Rattle.numbers.specs.Places.{tab-same, placed-front, part-ext, getD-written-in}
+use Prim.Native.Nat.{ℕ, zero, suc, _+_, _-_, _*_, _<_}
+use lib.ListN.{length}
+use lib.Ieee.{Float, Format, add, mul}
+use Rattle.numbers.specs.Words.{at}
+use Rattle.numbers.specs.Places.{tab-same}
 use Rattle.numbers.specs.Tests.{cond-same}
-use Rattle.spreading.specs.Pairs.{onto}
+use Rattle.gathering.specs.Pairs.{onto}
 use Rattle.synthesis.specs.Sums.{meets, joined}
 use Rattle.synthesis.specs.Meets.{reached}
 use Rattle.synthesis.specs.Lines.{synthesised}
@@ -37,13 +34,3 @@ pub synthesised-same : (f : Format) (F : ℕ) (low low′ high high′ a d out :
 unfolding synthesised
 synthesised-same f F low low′ high high′ a d out g h =
     tab-same _ _ (length out) (λ p l. joined-same f F (at low) (at low′) (at high) (at high′) g h (at a) (at d) (p + (F - 2)) (at out p) (length a))
-
--- the first n taps over a list as long: its first f are theirs
-pub front-copied : (taps own : List Float) (f n : ℕ) {own′ : List Float} → f ≤ n → n ≤ length taps → length own ≡ length taps
-    → own′ ≡ placed (at (take n taps)) 0 (length (take n taps)) own → take f own′ ≡ take f taps
-front-copied taps own f n h k e q =
-    let front = take n taps in
-    let l : length front ≡ n = length-take-le n taps k in
-    let same = q ∙ placed-front (at front) (length front) own in
-    part-ext nan 0 f _ taps (ap length same ∙ length-written (at front) (length front) own (omega (arith, l)) ∙ e)
-    (λ j _ b. ap (λ (x : List Float). at x j) same ∙ getD-written-in (at front) (length front) own j nan (omega (arith, l)) ∙ getD-take n taps j nan (omega arith))

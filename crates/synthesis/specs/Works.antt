@@ -1,14 +1,11 @@
 -- What the functions that entries share ask for, and what they leave of a part of the work. Definitions only.
 use mathlib.Core.Path.{_≡_}
-use mathlib.Core.Bool.{cond, _&&_}
 use mathlib.Core.List.{List}
-use Prim.Native.Nat.{ℕ, zero, suc, _+_, _-_, _*_, _%_, _≤_, _<_}
-use lib.Dec.{leb}
+use Prim.Native.Nat.{ℕ, _+_, _-_, _*_, _%_, _≤_}
 use lib.ListN.{length}
 use lib.Ieee.{Float, Format}
-use Rattle.numbers.specs.Words.{longest, at, tab}
-use Rattle.spreading.specs.Pairs.{onto}
-use Rattle.synthesis.specs.Sums.{meets}
+use Rattle.numbers.specs.Words.{longest, at, replaced}
+use Rattle.synthesis.specs.Sums.{joined}
 
 -- bands that are joined into an output of the ruled length
 pub record Joinable (f approx detail out : ℕ) : Type 0 where
@@ -19,27 +16,17 @@ pub record Joinable (f approx detail out : ℕ) : Type 0 where
   pub both : detail ≡ approx
   pub ruled : out + f ≡ 2 * approx + 2
 
--- `joined` with the pairs before `first` left out
-unfoldable pub joinedFrom : Format → ℕ → (ℕ → Float) → (ℕ → Float) → (ℕ → Float) → (ℕ → Float) → ℕ → ℕ → Float → ℕ → Float
-joinedFrom f F low high a d first P held zero = held
-joinedFrom f F low high a d first P held (suc i) =
-    let z = joinedFrom f F low high a d first P held i in
-    cond (leb first i && meets F P i) (onto f low high (P - 2 * i) (a i) (d i) z) z
-
--- the output after the pairs from `first` to `end`
-unfoldable pub joinedPairs : Format → ℕ → List Float → List Float → List Float → List Float → ℕ → ℕ → List Float → List Float
-unfolding joinedFrom
-joinedPairs f F low high a d first end out =
-    tab (λ p. joinedFrom f F (at low) (at high) (at a) (at d) first (p + (F - 2)) (at out p) end) (length out)
-
--- some of those pairs
-pub record PairsOf (f approx detail out first end : ℕ) : Type 0 where
+-- the same with the lists that hold the taps, at their fronts
+pub record Taking (f low high approx detail out : ℕ) : Type 0 where
   pub all : Joinable f approx detail out
-  pub rising : first ≤ end
-  pub last : end ≤ approx
+  pub lows : f ≤ low
+  pub highs : f ≤ high
 
--- pairs whose taps all meet the output
-pub record InnerPairs (f approx detail out first end : ℕ) : Type 0 where
-  pub some : PairsOf f approx detail out first end
-  pub before : f ≤ 2 * first + 2
-  pub behind : first < end → 2 * end ≤ out
+-- place p of an output after all pairs
+unfoldable pub placeOf : Format → ℕ → List Float → List Float → List Float → List Float → List Float → ℕ → Float
+unfolding joined
+placeOf f F low high a d out p = joined f F (at low) (at high) (at a) (at d) (p + (F - 2)) (at out p) (length a)
+
+-- that output after all pairs at its places from 2 k to 2 k′, the rest as it was
+abbrev pub joinedFrom : Format → ℕ → List Float → List Float → List Float → List Float → ℕ → ℕ → List Float → List Float
+joinedFrom f F low high a d k k′ out = replaced (placeOf f F low high a d out) (2 * k) (2 * (k′ - k)) out

@@ -52,8 +52,8 @@ pub fn synthesise(bank: Bank, approx: &[f64], detail: &[f64], out: &mut [f64]) -
     let Synthesis::Done = answer else {
         return answer;
     };
-    let low = bank.low;
-    let high = bank.high;
-    join(&low, &high, f, approx, detail, out);
+    let low = &bank.low;
+    let high = &bank.high;
+    join(low, high, f, approx, detail, out);
     Synthesis::Done
 }

@@ -1,102 +1,113 @@
-// Both bands joined into an output, pair after pair.
+// Both bands joined into an output, each place gathered from the f / 2 pairs that reach it: place 2k + e takes tap f - 2 + e - 2s from pair k + s, s rising.
+// The output has 2m + 2 - f places for m pairs, so that every place has all its pairs: there are no edges.
 ghost use mathlib.Core.Path.{_≡_};
-ghost use Prim.Native.Nat.{_≤_};
-ghost use lib.ListN.{length, take};
+ghost use Prim.Native.Nat.{_+_, _*_, _≤_};
+ghost use lib.ListN.{length};
 ghost use lib.Ieee.{binary64};
-ghost use Rattle.numbers.specs.Words.{cleared};
+ghost use Rattle.numbers.specs.Words.{cleared, replaced};
 ghost use Rattle.synthesis.specs.Lines.{synthesised};
-ghost use Rattle.synthesis.specs.Works.{Joinable, PairsOf, InnerPairs, joinedPairs};
-use border::pad::copy_line;
-use numbers::least;
-use numbers::less;
-use numbers::most;
-use spreading::spread;
+ghost use Rattle.synthesis.specs.Works.{Taking, placeOf, joinedFrom};
+use gathering::sixteen;
 
-// The pairs from `first` to `end`, each onto the part of the output that it reaches.
-fn edge(
-    low: &[f64; 64],
-    high: &[f64; 64],
+// Thirty-two places from 2k on: the even ones, then the odd ones. `sixteen` is called in one place only, so that it is inlined.
+fn thirty_two(
+    low: &[f64],
+    high: &[f64],
     f: usize,
     approx: &[f64],
     detail: &[f64],
+    k: usize,
     out: &mut [f64],
-    first: usize,
-    end: usize,
 )
-    requires { ⌜ PairsOf f (length (now approx)) (length (now detail)) (length (now out)) first end ⌝ }
-    ensures { λ _. ⌜ now (out .exit) ≡ joinedPairs binary64 f (now (low .entry)) (now (high .entry)) (now (approx .entry)) (now (detail .entry)) first end (now (out .entry)) ⌝ }
+    requires { ⌜ Taking f (length (now low)) (length (now high)) (length (now approx)) (length (now detail)) (length (now out)) × (2 * k + 32 ≤ length (now out)) ⌝ }
+    ensures { λ _. ⌜ now (out .exit) ≡ replaced (placeOf binary64 f (now (low .entry)) (now (high .entry)) (now (approx .entry)) (now (detail .entry)) (now (out .entry))) (2 * k) 32 (now (out .entry)) ⌝ }
 {
-    let offset = f - 2;
-    let n = out.len();
-    let mut i = first;
-    while i < end {
-        let k = 2 * i;
-        let lo = less(k, offset);
-        let hi = least(k + 2, n);
-        spread(
+    let half = f / 2;
+    let mut e = 0usize;
+    while e < 2 {
+        sixteen(
             low,
             high,
-            less(offset, k),
-            approx[i],
-            detail[i],
-            &mut out[lo..hi],
+            f - 2 + e,
+            half,
+            approx,
+            detail,
+            k,
+            out,
+            2 * k + e,
         );
+        e += 1;
+    }
+}
+
+// Places 2k and 2k + 1.
+fn two_at(
+    low: &[f64],
+    high: &[f64],
+    f: usize,
+    approx: &[f64],
+    detail: &[f64],
+    k: usize,
+    out: &mut [f64],
+)
+    requires { ⌜ Taking f (length (now low)) (length (now high)) (length (now approx)) (length (now detail)) (length (now out)) × (2 * k + 2 ≤ length (now out)) ⌝ }
+    ensures { λ _. ⌜ now (out .exit) ≡ replaced (placeOf binary64 f (now (low .entry)) (now (high .entry)) (now (approx .entry)) (now (detail .entry)) (now (out .entry))) (2 * k) 2 (now (out .entry)) ⌝ }
+{
+    let mut even = out[2 * k];
+    let mut odd = out[2 * k + 1];
+    let mut i = k;
+    let mut j = f;
+    while 2 <= j {
+        j -= 2;
+        let a = approx[i];
+        let d = detail[i];
+        even = even + high[j] * d + low[j] * a;
+        odd = odd + high[j + 1] * d + low[j + 1] * a;
         i += 1;
     }
+    out[2 * k] = even;
+    out[2 * k + 1] = odd;
 }
 
-// The same for pairs all of whose taps meet the output, two a turn; the answer is where it stopped.
-fn inner(
-    low: &[f64; 64],
-    high: &[f64; 64],
+// Thirty-two places a turn, from the front; the answer is how many twos of places are done.
+fn thirty_twos(
+    low: &[f64],
+    high: &[f64],
     f: usize,
     approx: &[f64],
     detail: &[f64],
     out: &mut [f64],
-    first: usize,
-    end: usize,
 ) -> usize
-    requires { ⌜ InnerPairs f (length (now approx)) (length (now detail)) (length (now out)) first end ⌝ }
-    ensures { λ r. ⌜ (first ≤ r) × (r ≤ end) × (now (out .exit) ≡ joinedPairs binary64 f (now (low .entry)) (now (high .entry)) (now (approx .entry)) (now (detail .entry)) first r (now (out .entry))) ⌝ }
+    requires { ⌜ Taking f (length (now low)) (length (now high)) (length (now approx)) (length (now detail)) (length (now out)) ⌝ }
+    ensures { λ r. ⌜ (2 * r ≤ length (now (out .entry))) × (now (out .exit) ≡ joinedFrom binary64 f (now (low .entry)) (now (high .entry)) (now (approx .entry)) (now (detail .entry)) 0 r (now (out .entry))) ⌝ }
 {
-    let offset = f - 2;
-    let mut i = first;
-    while i + 1 < end {
-        let lo = 2 * i - offset;
-        let hi = 2 * i + 2;
-        spread(low, high, 0, approx[i], detail[i], &mut out[lo..hi]);
-        let lo2 = lo + 2;
-        let hi2 = hi + 2;
-        spread(
-            low,
-            high,
-            0,
-            approx[i + 1],
-            detail[i + 1],
-            &mut out[lo2..hi2],
-        );
-        i += 2;
+    let n = out.len();
+    let mut k = 0usize;
+    while 2 * k + 31 < n {
+        thirty_two(low, high, f, approx, detail, k, out);
+        k += 16;
     }
-    i
+    k
 }
 
-// All pairs: those that begin before the output, those within it, and the rest.
-pub fn join(
-    low: &[f64; 64],
-    high: &[f64; 64],
+// Every place, the rest of them two by two.
+pub fn join<'a>(
+    low: &'a [f64],
+    high: &'a [f64],
     f: usize,
     approx: &[f64],
     detail: &[f64],
     out: &mut [f64],
 )
-    requires { ⌜ Joinable f (length (now approx)) (length (now detail)) (length (now out)) ⌝ }
+    requires { ⌜ Taking f (length (now low)) (length (now high)) (length (now approx)) (length (now detail)) (length (now out)) ⌝ }
     ensures { λ _. ⌜ now (out .exit) ≡ synthesised binary64 f (now (low .entry)) (now (high .entry)) (now (approx .entry)) (now (detail .entry)) (now (out .entry)) ⌝ }
 {
-    let start = (f - 2) / 2;
-    let end = most(start, out.len() / 2);
-    edge(low, high, f, approx, detail, out, 0, start);
-    let done = inner(low, high, f, approx, detail, out, start, end);
-    edge(low, high, f, approx, detail, out, done, approx.len());
+    let n = out.len();
+    let mut k = thirty_twos(low, high, f, approx, detail, out);
+    while 2 * k < n {
+        two_at(low, high, f, approx, detail, k, out);
+        k += 1;
+    }
 }
 
 pub fn clear(line: &mut [f64])
@@ -109,55 +120,18 @@ pub fn clear(line: &mut [f64])
     }
 }
 
-// The first f of 64 taps go to the front of as many places, by whole eights: that is shorter than a copy of all where f is small.
-fn copy_taps(taps: &[f64], f: usize, own: &mut [f64])
-    requires { ⌜ (f ≤ 64) × (length (now taps) ≡ 64) × (length (now own) ≡ 64) ⌝ }
-    ensures { λ _. ⌜ take f (now (own .exit)) ≡ take f (now (taps .entry)) ⌝ }
-{
-    let end = (f + 7) / 8 * 8;
-    copy_line(&taps[..end], own, 0);
-}
-
-// The pairs of `join` into an output that is cleared first, over taps of its own: a `join` with two callers is not inlined, and then tests each pair for taps that lie in the output.
-pub fn join_cleared(
-    low: &[f64; 64],
-    high: &[f64; 64],
+// Both bands joined into an output that is cleared first.
+pub fn join_cleared<'a>(
+    low: &'a [f64],
+    high: &'a [f64],
     f: usize,
     approx: &[f64],
     detail: &[f64],
     out: &mut [f64],
 )
-    requires { ⌜ Joinable f (length (now approx)) (length (now detail)) (length (now out)) ⌝ }
-    ensures { λ _. ⌜ now (out .exit) ≡ synthesised binary64 f (now (low .entry)) (now (high .entry)) (now (approx .entry)) (now (detail .entry)) (cleared (length (now (out .entry)))) ⌝ }
-{
-    let mut l = [0.0f64; 64];
-    let mut h = [0.0f64; 64];
-    copy_taps(low, f, &mut l);
-    copy_taps(high, f, &mut h);
-    clear(out);
-    let start = (f - 2) / 2;
-    let end = most(start, out.len() / 2);
-    edge(&l, &h, f, approx, detail, out, 0, start);
-    let done = inner(&l, &h, f, approx, detail, out, start, end);
-    edge(&l, &h, f, approx, detail, out, done, approx.len());
-}
-
-// The same over the taps as they are lent: for a caller that has copied them once for many joins, and is the only one, so that it is inlined there.
-pub fn join_anew(
-    low: &[f64; 64],
-    high: &[f64; 64],
-    f: usize,
-    approx: &[f64],
-    detail: &[f64],
-    out: &mut [f64],
-)
-    requires { ⌜ Joinable f (length (now approx)) (length (now detail)) (length (now out)) ⌝ }
+    requires { ⌜ Taking f (length (now low)) (length (now high)) (length (now approx)) (length (now detail)) (length (now out)) ⌝ }
     ensures { λ _. ⌜ now (out .exit) ≡ synthesised binary64 f (now (low .entry)) (now (high .entry)) (now (approx .entry)) (now (detail .entry)) (cleared (length (now (out .entry)))) ⌝ }
 {
     clear(out);
-    let start = (f - 2) / 2;
-    let end = most(start, out.len() / 2);
-    edge(low, high, f, approx, detail, out, 0, start);
-    let done = inner(low, high, f, approx, detail, out, start, end);
-    edge(low, high, f, approx, detail, out, done, approx.len());
+    join(low, high, f, approx, detail, out);
 }

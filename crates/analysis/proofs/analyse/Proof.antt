@@ -5,6 +5,7 @@ use Rattle.analysis.specs.Analyses.{numberOf}
 use Rattle.analysis.proofs.Analysis.{enum}
 use Rattle.analysis.proofs.analyse.Statement.{statement}
 use Rattle.analysis.proofs.analyse.Tie as tie
+use Rattle.bank.specs.Tested.{lent-all}
 use Rattle.analysis.specs.Tested.{analysing, done-alone}
 use Rattle.numbers.specs.Tests.{kept, key-above, other, refused}
 use lib.Dec.{lit<}
@@ -22,7 +23,11 @@ returns c = let r = c .before .analysis-answer .result in
     record { answer = c .before .analysis-answer .ensures; approxes = kept (numberOf r) z _ _; details = kept (numberOf r) z _ _; scratched = kept (numberOf r) z _ _ }
 
 line-bands-requires : tie.Need-line-bands-requires
-line-bands-requires c κs = let e = c .before .before .before .before .before .before .before in analysing _ _ _ _ _ (sym (e .before .before .analysis-answer .ensures) ∙ e .enum-told .given .1)
+line-bands-requires c κs = let h = c .before .before .before in
+    let l = h .before in
+    let e = l .before .before .before .before in
+    let p = analysing _ _ _ _ _ (sym (e .before .before .analysis-answer .ensures) ∙ e .enum-told .given .1) in
+    (lent-all (p .ready .taps .most) (l .line-bands-arg .given .0) (h .line-bands-arg2 .given .0), p)
 
 same-length : tie.Need-same-length
 same-length c = search needs
@@ -35,7 +40,7 @@ same-length-3 c = search needs
 
 returns-2 : tie.Need-returns-2
 returns-2 c = let w = c .before .before .before .before .before .before in
-    let e = w .before .before .before .before .before .before .before .before in
+    let e = w .before .before .before .before .before .before .before .before .before in
     record {
       answer = sym (e .enum-told .given .1) ∙ e .before .before .analysis-answer .ensures;
       approxes = w .line-bands .ensures .0;

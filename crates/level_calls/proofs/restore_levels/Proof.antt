@@ -1,10 +1,7 @@
--- `restore_levels` meets its contract: a refusal is told; else every test passed, and the work over arrays that the lists were copied to is over the lists.
-use Rattle.line_calls.specs.Pairs.{Paired}
-use Rattle.level_calls.specs.Calls.{restoring-ready, restoring-lists, restoring-refused, restoring-done}
+-- `restore_levels` meets its contract: a refusal is told; else every test passed, which gives the work what it asks for.
+use Rattle.level_calls.specs.Calls.{restoring-ready, restoring-lent, restoring-refused, restoring-done}
 use denote.Ref.{now}
-use lib.ListN.{length}
 use mathlib.Core.Path.{refl}
-use native.Mathlib.Omega.{arith}
 use borrow.Author.Needs.{needs}
 use Rattle.packed.specs.Tested.{first-line}
 use Rattle.level_calls.proofs.restore_levels.Statement.{statement}
@@ -22,38 +19,23 @@ levels-requires c κs = search needs
 returns : tie.Need-returns
 returns c = let t = c .before in restoring-refused _ _ _ _ _ _ _ (t .before .before .before .taps-of .ensures) (t .before .before .restoring-answer .ensures) (t .levels .ensures) (c .if1 .taken)
 
--- the lists where the tests passed
-lists : (e : tie.Else1) → let a = e .before .before .before .before .before .before .before .before .before .before .args in Paired (length (now (a .low))) (length (now (a .high)))
-lists e = let t = e .before in let a = t .before .before .before .before .before .before .before .before .before .args in restoring-lists (now (a .low)) (now (a .high)) (now (a .packed)) (a .n) (a .levels) (now (a .first)) (now (a .second)) (t .before .before .before .taps-of .ensures) (t .before .before .restoring-answer .ensures) (t .levels .ensures) (e .if1 .left)
-
-slice-aggregate-copy-to : tie.Need-slice-aggregate-copy-to
-slice-aggregate-copy-to c = search needs
-
-copy-to-requires : tie.Need-copy-to-requires
-copy-to-requires c κs = omega (arith, lists (c .before) .good .most)
-
-slice-aggregate-copy-to-2 : tie.Need-slice-aggregate-copy-to-2
-slice-aggregate-copy-to-2 c = search needs
-
-copy-to-requires-2 : tie.Need-copy-to-requires-2
-copy-to-requires-2 c κs = let p = lists (c .before .before .before .before) in omega (arith, p .both, p .good .most)
-
 most-requires : tie.Need-most-requires
 most-requires c κs = search needs
 
 restore-requires : tie.Need-restore-requires
 restore-requires c κs = let m = c .before .before in
-    let e = m .before .before .before .before .before .before .before .before .before in
+    let e = m .before in
     let t = e .before in
     let a = t .before .before .before .before .before .before .before .before .before .args in
-    restoring-ready (now (a .low)) (now (a .high)) (now (a .packed)) (a .n) (a .levels) (now (a .first)) (now (a .second)) (t .before .before .before .taps-of .ensures) (t .before .before .restoring-answer .ensures) (t .levels .ensures) (m .most .ensures) (e .if1 .left)
+    let b = restoring-lent (now (a .low)) (now (a .high)) (now (a .packed)) (a .n) (a .levels) (now (a .first)) (now (a .second)) (t .before .before .before .taps-of .ensures) (t .before .before .restoring-answer .ensures) (t .levels .ensures) (e .if1 .left) in
+    (b, restoring-ready (now (a .low)) (now (a .high)) (now (a .packed)) (a .n) (a .levels) (now (a .first)) (now (a .second)) (t .before .before .before .taps-of .ensures) (t .before .before .restoring-answer .ensures) (t .levels .ensures) (m .most .ensures) (e .if1 .left))
 
 holder-of-requires : tie.Need-holder-of-requires
 holder-of-requires c κs = search needs
 
 restoring-need-requires : tie.Need-restoring-need-requires
 restoring-need-requires c κs =
-    let e = c .before .before .before .before .before .before .before .before .before .before .before .before .before .before .before .before .before in
+    let e = c .before .before .before .before .before .before .before .before .before in
     let t = e .before in
     let a = t .before .before .before .before .before .before .before .before .before .args in
     let w = restoring-ready (now (a .low)) (now (a .high)) (now (a .packed)) (a .n) (a .levels) (now (a .first)) (now (a .second)) (t .before .before .before .taps-of .ensures) (t .before .before .restoring-answer .ensures) (t .levels .ensures) refl (e .if1 .left) in
@@ -71,9 +53,9 @@ same-length-2 c = search needs
 returns-2 : tie.Need-returns-2
 returns-2 c = let w = c .before .before .before .before .before .before .before .before in
     let m = w .before .before .before in
-    let e = m .before .before .before .before .before .before .before .before .before in
+    let e = m .before in
     let t = e .before in
-    restoring-done _ _ _ _ _ _ _ (t .before .before .before .taps-of .ensures) (t .before .before .restoring-answer .ensures) (t .levels .ensures) _ (e .if1 .left) (m .most .ensures) (m .before .before .before .before .before .before .before .copy-to .ensures) (m .before .before .before .before .copy-to2 .ensures)
+    restoring-done _ _ _ _ _ _ _ (t .before .before .before .taps-of .ensures) (t .before .before .restoring-answer .ensures) (t .levels .ensures) (e .if1 .left) (m .most .ensures)
     (w .restore .ensures .0) (w .restore .ensures .1) (c .before .before .before .holder-of .ensures) (c .before .before .restoring-need .ensures) (c .two .ensures)
 
 pub restore-levels-spec : {M : Type 1} → statement M
@@ -84,10 +66,6 @@ restore-levels-spec =
     restoring-answer-requires
     levels-requires
     returns
-    slice-aggregate-copy-to
-    copy-to-requires
-    slice-aggregate-copy-to-2
-    copy-to-requires-2
     most-requires
     restore-requires
     holder-of-requires

@@ -4,6 +4,7 @@ use denote.Enum.Declared.{tagOf, declared}
 use denote.Ref.{now}
 use Prim.Native.Nat.{ℕ}
 use Rattle.levels.specs.Lines.{packedLine, paddedLines}
+use Rattle.bank.specs.Tested.{lent-all}
 use Rattle.levels.specs.Tested.{splitting}
 use Rattle.levels.proofs.analyse_levels.Statement.{statement}
 use Rattle.levels.proofs.analyse_levels.Tie as tie
@@ -32,8 +33,11 @@ most-requires c κs = search needs
 split-requires : tie.Need-split-requires
 split-requires c κs =
     let m = c .before .before in
-    let e = m .before .before .before .before .before in
-    splitting _ _ _ _ _ _ (m .most .ensures) (sym (e .before .before .levels-answer .ensures) ∙ e .enum-told .given .1)
+    let h = m .before in
+    let l = h .before in
+    let e = l .before .before .before .before in
+    let p = splitting _ _ _ _ _ _ (m .most .ensures) (sym (e .before .before .levels-answer .ensures) ∙ e .enum-told .given .1) in
+    (lent-all (p .packs .sound .taps .most) (l .split-arg .given .0) (h .split-arg2 .given .0), p)
 
 same-length : tie.Need-same-length
 same-length c = search needs
@@ -45,12 +49,12 @@ returns-2 : tie.Need-returns-2
 returns-2 c =
     let w = c .before .before .before .before in
     let m = w .before .before .before in
-    let e = m .before .before .before .before .before in
+    let e = m .before .before .before .before .before .before in
     let a = e .before .before .before .before .before .before .args in
     record {
       answer = sym (e .enum-told .given .1) ∙ e .before .before .levels-answer .ensures;
-      packs = w .split .ensures .0 ∙ ap (packedLine binary64 (a .bank .low) (a .bank .high) (a .bank .taps) (a .bank .border) (now (a .line))) (m .most .ensures);
-      scratched = w .split .ensures .1 ∙ ap (λ (k : ℕ). paddedLines binary64 (a .bank .low) (a .bank .taps) (a .bank .border) (now (a .line)) k (now (a .scratch))) (m .most .ensures);
+      packs = w .split .ensures .0 ∙ ap (packedLine binary64 (a .t1 .low) (a .t1 .high) (a .t1 .taps) (a .t1 .border) (now (a .line))) (m .most .ensures);
+      scratched = w .split .ensures .1 ∙ ap (λ (k : ℕ). paddedLines binary64 (a .t1 .low) (a .t1 .taps) (a .t1 .border) (now (a .line)) k (now (a .scratch))) (m .most .ensures);
     }
 
 pub analyse-levels-spec : {M : Type 1} → statement M

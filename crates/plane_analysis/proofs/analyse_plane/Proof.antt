@@ -8,6 +8,7 @@ use Rattle.numbers.specs.Tests.{key-above, other, refused, kept}
 use Rattle.planes.proofs.Planes.{enum}
 use Rattle.planes.specs.Answers.{numberOf}
 use Rattle.planes.specs.Tested.{done-alone, untouched, touched}
+use Rattle.bank.specs.Tested.{lent-all}
 use Rattle.plane_analysis.specs.Tested.{analysing}
 use Rattle.plane_analysis.proofs.analyse_plane.Statement.{statement}
 use Rattle.plane_analysis.proofs.analyse_plane.Tie as tie
@@ -33,9 +34,11 @@ returns c =
 
 split-plane-requires : tie.Need-split-plane-requires
 split-plane-requires c κs =
-    let e = c .before .before .before .before .before .before .before .before .before in
-    let t = analysing _ _ _ _ _ _ _ _ _ (sym (e .before .before .plane-analysis-answer .ensures) ∙ e .enum-told .given .1) in
-    record { held = t .held; wide = t .wide; high = t .high; bands = omega (arith, t .bands) }
+    let h = c .before .before .before .before .before in
+    let l = h .before in
+    let e = l .before .before .before .before in
+    let p = analysing _ _ _ _ _ _ _ _ _ (sym (e .before .before .plane-analysis-answer .ensures) ∙ e .enum-told .given .1) in
+    (lent-all (p .held .sides .taps .most) (l .split-plane-arg .given .0) (h .split-plane-arg2 .given .0), record { held = p .held; wide = p .wide; high = p .high; bands = omega (arith, p .bands) })
 
 same-length : tie.Need-same-length
 same-length c = search needs
@@ -55,7 +58,7 @@ same-length-5 c = search needs
 returns-2 : tie.Need-returns-2
 returns-2 c =
     let w = c .before .before .before .before .before .before .before .before .before .before .split-plane .ensures in
-    let e = c .before .before .before .before .before .before .before .before .before .before .before .before .before .before .before .before .before .before .before .before in
+    let e = c .before .before .before .before .before .before .before .before .before .before .before .before .before .before .before .before .before .before .before .before .before in
     record {
       answer = sym (e .enum-told .given .1) ∙ e .before .before .plane-analysis-answer .ensures;
       lls = w .lls;

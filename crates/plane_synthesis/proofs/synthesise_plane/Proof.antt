@@ -8,6 +8,7 @@ use Rattle.numbers.specs.Tests.{key-above, other, refused, kept}
 use Rattle.planes.proofs.Planes.{enum}
 use Rattle.planes.specs.Answers.{numberOf}
 use Rattle.planes.specs.Tested.{done-alone, untouched, touched}
+use Rattle.bank.specs.Tested.{lent-all}
 use Rattle.plane_synthesis.specs.Tested.{synthesising}
 use Rattle.plane_synthesis.proofs.synthesise_plane.Statement.{statement}
 use Rattle.plane_synthesis.proofs.synthesise_plane.Tie as tie
@@ -26,9 +27,11 @@ returns c =
 
 join-plane-requires : tie.Need-join-plane-requires
 join-plane-requires c κs =
-    let e = c .before .before .before .before .before .before in
+    let h = c .before .before in
+    let l = h .before in
+    let e = l .before .before .before .before in
     let t = synthesising _ _ _ _ _ _ _ _ _ (sym (e .before .before .plane-synthesis-answer .ensures) ∙ e .enum-told .given .1) in
-    record { held = t .held; bands = omega (arith, t .bands); even = t .even }
+    (lent-all (t .held .sides .taps .most) (l .join-plane-arg .given .0) (h .join-plane-arg2 .given .0), record { held = t .held; bands = omega (arith, t .bands); even = t .even })
 
 same-length : tie.Need-same-length
 same-length c = search needs
@@ -39,7 +42,7 @@ same-length-2 c = search needs
 returns-2 : tie.Need-returns-2
 returns-2 c =
     let w = c .before .before .before .before .join-plane .ensures in
-    let e = c .before .before .before .before .before .before .before .before .before .before .before in
+    let e = c .before .before .before .before .before .before .before .before .before .before .before .before in
     record {
       answer = sym (e .enum-told .given .1) ∙ e .before .before .plane-synthesis-answer .ensures;
       joined = w .joined;

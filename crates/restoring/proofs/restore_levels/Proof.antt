@@ -8,6 +8,7 @@ use Rattle.packed.proofs.Levels.{enum}
 use Rattle.packed.specs.Answers.{numberOf}
 use Rattle.packed.specs.Tested.{done-alone}
 use Rattle.restoring.specs.Lines.{firstAfter, secondAfter}
+use Rattle.bank.specs.Tested.{lent-all}
 use Rattle.restoring.specs.Tested.{restoring}
 use Rattle.restoring.proofs.restore_levels.Statement.{statement}
 use Rattle.restoring.proofs.restore_levels.Tie as tie
@@ -32,8 +33,11 @@ most-requires c κs = search needs
 restore-requires : tie.Need-restore-requires
 restore-requires c κs =
     let m = c .before .before in
-    let e = m .before .before .before .before .before in
-    restoring _ _ _ _ _ _ _ (m .most .ensures) (sym (e .before .before .restoring-answer .ensures) ∙ e .enum-told .given .1)
+    let h = m .before in
+    let l = h .before in
+    let e = l .before .before .before .before in
+    let r = restoring _ _ _ _ _ _ _ (m .most .ensures) (sym (e .before .before .restoring-answer .ensures) ∙ e .enum-told .given .1) in
+    (lent-all (r .packs .sound .taps .most) (l .restore-arg .given .0) (h .restore-arg2 .given .0), r)
 
 same-length : tie.Need-same-length
 same-length c = search needs
@@ -45,12 +49,12 @@ returns-2 : tie.Need-returns-2
 returns-2 c =
     let w = c .before .before .before .before in
     let m = w .before .before .before in
-    let e = m .before .before .before .before .before in
+    let e = m .before .before .before .before .before .before in
     let a = e .before .before .before .before .before .before .args in
     record {
       answer = sym (e .enum-told .given .1) ∙ e .before .before .restoring-answer .ensures;
-      firsts = w .restore .ensures .0 ∙ ap (λ (k : ℕ). firstAfter binary64 (a .bank .taps) (a .bank .low) (a .bank .high) (now (a .packed)) (a .n) k k (now (a .first))) (m .most .ensures);
-      seconds = w .restore .ensures .1 ∙ ap (λ (k : ℕ). secondAfter binary64 (a .bank .taps) (a .bank .low) (a .bank .high) (now (a .packed)) (a .n) k k (now (a .second))) (m .most .ensures);
+      firsts = w .restore .ensures .0 ∙ ap (λ (k : ℕ). firstAfter binary64 (a .t1 .taps) (a .t1 .low) (a .t1 .high) (now (a .packed)) (a .n) k k (now (a .first))) (m .most .ensures);
+      seconds = w .restore .ensures .1 ∙ ap (λ (k : ℕ). secondAfter binary64 (a .t1 .taps) (a .t1 .low) (a .t1 .high) (now (a .packed)) (a .n) k k (now (a .second))) (m .most .ensures);
     }
 
 pub restore-levels-spec : {M : Type 1} → statement M

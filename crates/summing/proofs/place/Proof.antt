@@ -17,19 +17,19 @@ abbrev μ-loop : tie.MeasureT-loop
 μ-loop low high f padded from sums₀ j₀ sums j = f - j
 
 loop-holds : tie.Need-loop-holds Inv-loop μ-loop
-loop-holds c = let a = c .before .args in (search needs, sum-start (now (a .low)) (now (a .padded)) (a .from), sum-start (now (a .high)) (now (a .padded)) (a .from))
+loop-holds c = let a = c .before .before .before .args in (search needs, sum-start (now (a .low)) (now (a .padded)) (a .from), sum-start (now (a .high)) (now (a .padded)) (a .from))
 
 mul-tap : tie.Need-mul-tap Inv-loop μ-loop
 mul-tap c = search needs
 
-element-copy-out-tap : tie.Need-element-copy-out-tap Inv-loop μ-loop
-element-copy-out-tap c = search needs
+shared-slice-read-tap : tie.Need-shared-slice-read-tap Inv-loop μ-loop
+shared-slice-read-tap c = search needs
 
 mul-tap-2 : tie.Need-mul-tap-2 Inv-loop μ-loop
 mul-tap-2 c = search needs
 
-element-copy-out-tap-2 : tie.Need-element-copy-out-tap-2 Inv-loop μ-loop
-element-copy-out-tap-2 c = search needs
+shared-slice-read-tap-2 : tie.Need-shared-slice-read-tap-2 Inv-loop μ-loop
+shared-slice-read-tap-2 c = search needs
 
 add-tap : tie.Need-add-tap Inv-loop μ-loop
 add-tap c = search needs
@@ -37,8 +37,8 @@ add-tap c = search needs
 mul-tap-3 : tie.Need-mul-tap-3 Inv-loop μ-loop
 mul-tap-3 c = search needs
 
-shared-slice-read-tap : tie.Need-shared-slice-read-tap Inv-loop μ-loop
-shared-slice-read-tap c = search needs
+shared-slice-read-tap-3 : tie.Need-shared-slice-read-tap-3 Inv-loop μ-loop
+shared-slice-read-tap-3 c = search needs
 
 tap-requires : tie.Need-tap-requires Inv-loop μ-loop
 tap-requires c κs = search needs
@@ -50,14 +50,14 @@ loop-less : tie.Need-loop-less Inv-loop μ-loop
 loop-less c = search needs
 
 loop-again : tie.Need-loop-again Inv-loop μ-loop
-loop-again c = let l = c .before .before .before .before .before in let a = l .before .before .args in (
+loop-again c = let l = c .before .before .before .before .before in let a = l .before .before .before .before .args in (
   search needs,
   sum-step binary64 (now (a .low)) (now (a .padded)) (a .from) (l .loop .j) (l .loop .inv .1) (c .tap .ensures .0),
   sum-step binary64 (now (a .high)) (now (a .padded)) (a .from) (l .loop .j) (l .loop .inv .2) (c .tap .ensures .1),
 )
 
 returns : tie.Need-returns Inv-loop μ-loop
-returns c = let l = c .before in let a = l .before .before .args in (
+returns c = let l = c .before in let a = l .before .before .before .before .args in (
   sum-end binary64 (now (a .low)) (now (a .padded)) (a .from) (l .loop .j) (a .f) (l .loop .inv .1) (search needs) (search needs),
   sum-end binary64 (now (a .high)) (now (a .padded)) (a .from) (l .loop .j) (a .f) (l .loop .inv .2) (search needs) (search needs),
 )
@@ -70,12 +70,12 @@ place-spec =
     μ-loop
     loop-holds
     mul-tap
-    element-copy-out-tap
+    shared-slice-read-tap
     mul-tap-2
-    element-copy-out-tap-2
+    shared-slice-read-tap-2
     add-tap
     mul-tap-3
-    shared-slice-read-tap
+    shared-slice-read-tap-3
     tap-requires
     add-j
     loop-less

@@ -5,6 +5,7 @@ use Rattle.synthesis.proofs.Synthesis.{enum}
 use borrow.Author.Needs.{needs}
 use Rattle.synthesis.proofs.synthesise.Statement.{statement}
 use Rattle.synthesis.proofs.synthesise.Tie as tie
+use Rattle.bank.specs.Tested.{lent-all}
 use Rattle.synthesis.specs.Tested.{joinable, done-alone}
 use Rattle.numbers.specs.Tests.{kept, key-above, other, refused}
 use lib.Dec.{lit<}
@@ -21,13 +22,18 @@ returns c = let r = c .before .synthesis-answer .result in
     record { answer = c .before .synthesis-answer .ensures; joined = kept (numberOf r) (refused numberOf done-alone r (other (tagOf (declared enum)) r refl (key-above 4 1 _ (lit< tt) (c .match .keys2)))) _ _ }
 
 join-requires : tie.Need-join-requires
-join-requires c κs = let e = c .before .before .before .before .before in joinable _ _ _ _ (sym (e .before .before .synthesis-answer .ensures) ∙ e .enum-told .given .1)
+join-requires c κs = let h = c .before in
+    let l = h .before in
+    let e = l .before .before .before .before in
+    let j = joinable _ _ _ _ (sym (e .before .before .synthesis-answer .ensures) ∙ e .enum-told .given .1) in
+    let t = lent-all (j .most) (l .join-arg .given .0) (h .join-arg2 .given .0) in
+    record { all = j; lows = t .lows; highs = t .highs }
 
 same-length : tie.Need-same-length
 same-length c = search needs
 
 returns-2 : tie.Need-returns-2
-returns-2 c = let e = c .before .before .before .before .before .before .before .before in record { answer = sym (e .enum-told .given .1) ∙ e .before .before .synthesis-answer .ensures; joined = c .before .before .join .ensures }
+returns-2 c = let e = c .before .before .before .before .before .before .before .before .before in record { answer = sym (e .enum-told .given .1) ∙ e .before .before .synthesis-answer .ensures; joined = c .before .before .join .ensures }
 
 pub synthesise-spec : {M : Type 1} → statement M
 synthesise-spec =

@@ -1,49 +1,34 @@
--- `analysis::work::bands_beside` meets its contract: each turn writes one place of either half, which is the pair of sums there.
+-- `analysis::work::bands_beside` meets its contract: it goes on from the eights, and each turn writes one place of either half, which is the pair of sums there.
 use borrow.Author.Needs.{needs}
+use Prim.Native.Nat.{_-_, _+_, _≤_}
+use native.Mathlib.Omega.{arith}
+use mathlib.Core.Path.{_≡_, refl, _∙_}
+use denote.Ref.{now}
+use lib.ListN.{length, length-set}
+use lib.Ieee.{binary64}
+use Rattle.analysis.specs.Works.{bandOf}
+use Rattle.analysis.specs.Halves.{Halves, halves-again, beside-step, beside-all}
 use Rattle.analysis.proofs.work.bands_beside.Statement.{statement}
 use Rattle.analysis.proofs.work.bands_beside.Tie as tie
-use Prim.Native.Nat.{ℕ, _+_, _-_, _<_, _≤_}
-use Rattle.analysis.specs.Works.{bandOf}
-use Rattle.numbers.specs.Words.{tab, written}
-use Rattle.numbers.specs.Write.{written-full, written-start, written-step}
-use denote.Ref.{now}
-use lib.Ieee.{Float, binary64}
-use lib.ListN.{length, set, take, drop, length-set, length-drop, take-append-drop}
-use lib.Seq.{length-take-le, take-set-le, take-set-lt, drop-set-lt, drop-set-add}
-use mathlib.Core.List.{List, _++_}
-use mathlib.Core.Path.{_≡_, sym, ap, _∙_}
-use native.Mathlib.Omega.{arith}
 
 abbrev Inv-loop : tie.InvT-loop
 Inv-loop low high f padded both₀ m i₀ both i =
-    (i ≤ m) × (length both ≡ length both₀) × (take m both ≡ written (bandOf binary64 high f padded) i (take m both₀))
-    × (drop m both ≡ written (bandOf binary64 low f padded) i (drop m both₀))
+    (i ≤ m) × (length both₀ ≡ m + m) × (length both ≡ length both₀) × Halves (bandOf binary64 high f padded) (bandOf binary64 low f padded) 0 m i both₀ both
 
 abbrev μ-loop : tie.MeasureT-loop
 μ-loop low high f padded both₀ m i₀ both i = m - i
 
--- a place of the second half is none of the first, and the other way round
-first-half : (g : ℕ → Float) (m i : ℕ) (x l : List Float) (u v : Float) → i < m → m ≤ length x → take m l ≡ written g i (take m x) → u ≡ g i
-    → take m (set (set l i u) (m + i) v) ≡ written g (i + 1) (take m x)
-first-half g m i x l u v h k e q =
-    take-set-le m (set l i u) (m + i) v (omega arith) ∙ take-set-lt m l i u h ∙ written-step g i (take m x) (omega (arith, length-take-le m x k)) e q
-
-second-half : (g : ℕ → Float) (m i : ℕ) (x l : List Float) (u v : Float) → i < m → length x ≡ m + m → drop m l ≡ written g i (drop m x) → v ≡ g i
-    → drop m (set (set l i u) (m + i) v) ≡ written g (i + 1) (drop m x)
-second-half g m i x l u v h k e q =
-    drop-set-add m (set l i u) i v ∙ ap (λ (y : List Float). set y i v) (drop-set-lt m l i u h) ∙ written-step g i (drop m x) (omega (arith, length-drop m x)) e q
-
-both-halves : (g h : ℕ → Float) (m i : ℕ) (x : List Float) {l : List Float} → length x ≡ m + m → i ≤ m → m ≤ i
-    → take m l ≡ written g i (take m x) → drop m l ≡ written h i (drop m x) → l ≡ tab g m ++ tab h m
-both-halves g h m i x {l} k u v p q =
-    let t : length (take m x) ≡ m = length-take-le m x (omega arith) in
-    let d : length (drop m x) ≡ m = length-drop m x ∙ omega (arith, k) in
-    sym (take-append-drop m l)
-    ∙ ap (λ (y : List Float). y ++ drop m l) (written-full g i (take m x) p (omega (arith, t)) (omega (arith, t)) ∙ ap (tab g) t)
-    ∙ ap (λ (y : List Float). tab g m ++ y) (written-full h i (drop m x) q (omega (arith, d)) (omega (arith, d)) ∙ ap (tab h) d)
+eights-beside-requires : tie.Need-eights-beside-requires Inv-loop μ-loop
+eights-beside-requires c κs = search needs
 
 loop-holds : tie.Need-loop-holds Inv-loop μ-loop
-loop-holds c = (search needs, search needs, written-start _ _, written-start _ _)
+loop-holds c = let e = c .before .before in let s = e .before .before .before .before .before .before in let a = s .args in (
+  search needs,
+  e .eights-beside .ensures .1 .long ∙ s .pre .filled,
+  search needs,
+  halves-again (bandOf binary64 (now (a .high)) (a .f) (now (a .padded))) (bandOf binary64 (now (a .low)) (a .f) (now (a .padded))) 0 (a .m) (e .eights-beside .result) (e .eights-beside .ensures .1)
+      (λ j l. refl) (λ j l. refl),
+)
 
 mul-place : tie.Need-mul-place Inv-loop μ-loop
 mul-place c = search needs
@@ -66,7 +51,7 @@ mul-both-2 c = search needs
 slice-write-both-2 : tie.Need-slice-write-both-2 Inv-loop μ-loop
 slice-write-both-2 c =
     let l = c .before .before in
-    omega (arith, length-set (l .loop .both) (l .loop .i) (c .place .result .detail), l .loop .inv .1, l .before .before .before .pre .filled)
+    omega (arith, length-set (l .loop .both) (l .loop .i) (c .place .result .detail), l .loop .inv .1, l .loop .inv .2, c .before .loop-test .taken)
 
 add-i : tie.Need-add-i Inv-loop μ-loop
 add-i c = search needs
@@ -75,27 +60,21 @@ loop-less : tie.Need-loop-less Inv-loop μ-loop
 loop-less c = search needs
 
 loop-again : tie.Need-loop-again Inv-loop μ-loop
-loop-again c =
-    let l = c .before .before in
-    let s = l .before .before .before in
-    let a = s .args in
-    let i = l .loop .i in (
-      search needs,
-      simp length-set (l .loop .inv .1),
-      first-half (bandOf binary64 (now (a .high)) (a .f) (now (a .padded))) (a .m) i (now (a .both)) (l .loop .both) _ _ (omega arith) (omega (arith, s .pre .filled)) (l .loop .inv .2) (c .place .ensures .1),
-      second-half (bandOf binary64 (now (a .low)) (a .f) (now (a .padded))) (a .m) i (now (a .both)) (l .loop .both) _ _ (omega arith) (s .pre .filled) (l .loop .inv .3) (c .place .ensures .0),
-    )
+loop-again c = let l = c .before .before in let a = l .before .before .before .before .before .before .before .before .before .args in (
+  search needs,
+  l .loop .inv .1,
+  simp length-set (l .loop .inv .2),
+  beside-step (bandOf binary64 (now (a .high)) (a .f) (now (a .padded))) (bandOf binary64 (now (a .low)) (a .f) (now (a .padded))) (a .m) (l .loop .i) _ (l .loop .both) _ _
+      (c .before .loop-test .taken) (l .loop .inv .1) (l .loop .inv .3) (c .place .ensures .1) (c .place .ensures .0),
+)
 
 same-length : tie.Need-same-length Inv-loop μ-loop
 same-length c = search needs
 
 returns : tie.Need-returns Inv-loop μ-loop
-returns c =
-    let l = c .before in
-    let s = l .before .before .before in
-    let a = s .args in
-    both-halves (bandOf binary64 (now (a .high)) (a .f) (now (a .padded))) (bandOf binary64 (now (a .low)) (a .f) (now (a .padded))) (a .m) (l .loop .i) (now (a .both))
-    (s .pre .filled) (omega arith) (omega arith) (l .loop .inv .2) (l .loop .inv .3)
+returns c = let l = c .before in let a = l .before .before .before .before .before .before .before .before .before .args in
+    beside-all (bandOf binary64 (now (a .high)) (a .f) (now (a .padded))) (bandOf binary64 (now (a .low)) (a .f) (now (a .padded))) (a .m) (l .loop .i) _ (l .loop .both)
+    (l .loop .inv .1) (l .loop .inv .0) (c .loop-test .left) (l .loop .inv .3)
 
 pub bands-beside-spec : {M : Type 1} → statement M
 bands-beside-spec =
@@ -103,6 +82,7 @@ bands-beside-spec =
     (tie.spec
     Inv-loop
     μ-loop
+    eights-beside-requires
     loop-holds
     mul-place
     place-requires

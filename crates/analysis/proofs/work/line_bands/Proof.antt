@@ -27,9 +27,9 @@ pad-line-requires c κs = search needs
 bands-requires : tie.Need-bands-requires
 bands-requires c κs =
     let p = c .before .before .before .before .before in
-    let s = p .before .before .before .before .before .before in
-    let d = s .pre in
-    record { most = d .ready .taps .most; both = d .detailed ∙ sym (d .approxed); within = omega (arith, d .ready .taps .two, d .approxed, d .room, p .pad-line .kept .1 .1 .1 .0) }
+    let s = p .before .before .before .before .before .before .before .before in
+    let d = s .pre .1 in
+    record { lows = s .pre .0 .lows; highs = s .pre .0 .highs; both = d .detailed ∙ sym (d .approxed); within = omega (arith, d .ready .taps .two, d .approxed, d .room, p .pad-line .kept .1 .1 .1 .0) }
 
 same-length : tie.Need-same-length
 same-length c = search needs
@@ -44,9 +44,9 @@ returns : tie.Need-returns
 returns c =
     let k = c .before .before .before .before in
     let p = k .before .before .before .before .before .before in
-    let s = p .before .before .before .before .before .before in
+    let s = p .before .before .before .before .before .before .before .before in
     let a = s .args in
-    let d = s .pre in (
+    let d = s .pre .1 in (
       banded (a .border) (now (a .low)) (now (a .line)) (now (a .scratch)) _ (a .f) (length (now (a .approx))) (d .approxed) (p .pad-line .ensures) (k .bands .ensures .0),
       banded (a .border) (now (a .high)) (now (a .line)) (now (a .scratch)) _ (a .f) (length (now (a .approx))) (d .approxed) (p .pad-line .ensures) (k .bands .ensures .1),
       p .pad-line .ensures,

@@ -6,7 +6,7 @@ use lib.Ieee.{nan}
 use lib.ListN.{length, getD}
 use Rattle.numbers.specs.Words.{placed}
 use Rattle.numbers.specs.Write.{placed-start, placed-end}
-use Rattle.border.specs.Copies.{placed-more}
+use Rattle.numbers.specs.Runs.{placed-more}
 use borrow.Author.Needs.{needs}
 use Rattle.border.proofs.pad.copy_eights.Statement.{statement}
 use Rattle.border.proofs.pad.copy_eights.Tie as tie

@@ -28,15 +28,15 @@ abbrev μ-loop : tie.MeasureT-loop
 -- a turn's lengths
 lengths : (c : tie.In-loop Inv-loop μ-loop)
     → let l = c .before in
-    let a = l .before .before .before .before .args in
+    let a = l .before .before .before .before .before .before .args in
     Turn (length (now (a .line))) (a .f) (length (now (a .packed))) (length (now (a .scratch))) (l .loop .k) (l .loop .start) (l .loop .n) (pairs (l .loop .n) (a .f))
 lengths c =
     let l = c .before in
-    let s = l .before .before .before .before in
+    let s = l .before .before .before .before .before .before in
     let a = s .args in
     let i = l .loop .inv in
     turn (length (now (a .line))) (a .f) (a .levels) (length (now (a .packed))) (length (now (a .scratch))) (l .loop .k) (l .loop .start) (l .loop .n) (pairs (l .loop .n) (a .f))
-    (s .pre) (c .loop-test .taken) (i .1) (i .2) refl
+    (s .pre .1) (c .loop-test .taken) (i .1) (i .2) refl
 
 -- the lengths at the end
 ended : (n f levels k start line : ℕ) → k ≡ levels → start ≡ detailsTo n f k → line ≡ lineAfter n f k → start + line ≡ detailsTo n f levels + lineAfter n f levels
@@ -44,7 +44,7 @@ ended n f levels k start line e p q = rw (← e) (omega (arith, p, q))
 
 loop-holds : tie.Need-loop-holds Inv-loop μ-loop
 loop-holds c =
-    let a = c .before .before .before .args in (
+    let a = c .before .before .before .before .before .args in (
       search needs,
       details-none (length (now (a .line))) (a .f),
       line-none (length (now (a .line))) (a .f),
@@ -71,10 +71,10 @@ sub-n : tie.Need-sub-n Inv-loop μ-loop
 sub-n c = search needs
 
 add-end : tie.Need-add-end Inv-loop μ-loop
-add-end c = omega (arith, lengths (c .before .before .before .before .before) .inside, c .before .before .before .before .before .before .before .before .before .before .pre .packs .filled)
+add-end c = omega (arith, lengths (c .before .before .before .before .before) .inside, c .before .before .before .before .before .before .before .before .before .before .before .before .pre .1 .packs .filled)
 
 add-end-2 : tie.Need-add-end-2 Inv-loop μ-loop
-add-end-2 c = omega (arith, lengths (c .before .before .before .before .before) .inside, c .before .before .before .before .before .before .before .before .before .before .pre .packs .filled)
+add-end-2 c = omega (arith, lengths (c .before .before .before .before .before) .inside, c .before .before .before .before .before .before .before .before .before .before .before .before .pre .1 .packs .filled)
 
 mul-bands-beside : tie.Need-mul-bands-beside Inv-loop μ-loop
 mul-bands-beside c = omega (arith, lengths (c .before .before .before .before .before .before) .inside, c .before .before .before .before .before .before .before .loop .inv .3)
@@ -94,9 +94,11 @@ bands-beside-requires c κs =
     let w = p .before .before .before in
     let t = lengths w in
     let l = w .before in
-    let m = pairs (l .loop .n) (l .before .before .before .before .args .f) in
+    let s = l .before .before .before .before .before .before in
+    let m = pairs (l .loop .n) (s .args .f) in
     record {
-      most = t .held .next .ready .taps .most;
+      lows = s .pre .0 .lows;
+      highs = s .pre .0 .highs;
       filled = mid-len (l .loop .start) (l .loop .start + (m + m)) (l .loop .packed) (omega (arith, t .inside, l .loop .inv .3)) ∙ omega arith;
       within = omega (arith, t .held .next .room, t .held .next .ready .taps .two, l .loop .inv .4, p .pad-level .kept .1 .1 .1 .1 .1 .1 .1 .0);
     }
@@ -116,7 +118,7 @@ loop-again c =
     let p = b .before .before .before .before .before in
     let w = p .before .before .before in
     let l = w .before in
-    let s = l .before .before .before .before in
+    let s = l .before .before .before .before .before .before in
     let a = s .args in
     let i = l .loop .inv in
     let k = l .loop .k in
@@ -146,13 +148,13 @@ same-length-2 c = search needs
 returns : tie.Need-returns Inv-loop μ-loop
 returns c =
     let l = c .before in
-    let s = l .before .before .before .before in
+    let s = l .before .before .before .before .before .before in
     let a = s .args in
     let i = l .loop .inv in
     let k = l .loop .k in
     let e : k ≡ a .levels = omega (arith, i .0, c .loop-test .left) in (
-      all-packed binary64 (now (a .low)) (now (a .high)) (a .f) (a .border) (now (a .line)) (a .levels) k (l .loop .start) (l .loop .n) e (s .pre .packs .some)
-          (ended (length (now (a .line))) (a .f) (a .levels) k (l .loop .start) (l .loop .n) e (i .1) (i .2) ∙ sym (s .pre .packs .filled) ∙ sym (i .3)) (i .5) (i .6),
+      all-packed binary64 (now (a .low)) (now (a .high)) (a .f) (a .border) (now (a .line)) (a .levels) k (l .loop .start) (l .loop .n) e (s .pre .1 .packs .some)
+          (ended (length (now (a .line))) (a .f) (a .levels) k (l .loop .start) (l .loop .n) e (i .1) (i .2) ∙ sym (s .pre .1 .packs .filled) ∙ sym (i .3)) (i .5) (i .6),
       i .7 ∙ ap (λ (j : ℕ). paddedLines binary64 (now (a .low)) (a .f) (a .border) (now (a .line)) j (now (a .scratch))) e,
     )
 

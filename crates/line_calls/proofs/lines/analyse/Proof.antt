@@ -1,10 +1,7 @@
--- `analyse` meets its contract: without a border nothing is done; a refusal is told; else every test passed, and the work over arrays that the lists were copied to is over the lists.
-use Rattle.line_calls.specs.Pairs.{Paired}
-use Rattle.line_calls.specs.Calls.{analysis-hidden, analysis-ready, analysis-lists, analysis-refused, analysis-done}
+-- `analyse` meets its contract: without a border nothing is done; a refusal is told; else every test passed, and the work is over the lists as they are lent.
+use Rattle.line_calls.specs.Calls.{analysis-hidden, analysis-ready, analysis-lent, analysis-refused, analysis-done}
 use denote.Ref.{now}
-use lib.ListN.{length}
 use mathlib.Core.Path.{sym, _∙_}
-use native.Mathlib.Omega.{arith}
 use borrow.Author.Needs.{needs}
 use Rattle.line_calls.proofs.lines.analyse.Statement.{statement}
 use Rattle.line_calls.proofs.lines.analyse.Tie as tie
@@ -30,27 +27,14 @@ analysis-requires c κs = search needs
 returns-2 : tie.Need-returns-2
 returns-2 c = let t = c .before in let b = t .before .before .before .before in analysis-refused _ _ _ _ _ _ _ (t .before .before .before .taps-of .ensures) (t .before .before .analysis-answer .ensures) (t .analysis .ensures) (sym (b .before .no-border .ensures) ∙ b .if1 .left) (c .if2 .taken)
 
--- the lists where the tests passed
-lists : (e : tie.Else2) → let a = e .before .before .before .before .before .before .before .before .before .before .before .before .before .args in Paired (length (now (a .low))) (length (now (a .high)))
-lists e = let t = e .before in let a = t .before .before .before .before .before .before .before .before .before .before .before .before .args in analysis-lists (a .border) (now (a .low)) (now (a .high)) (now (a .line)) (now (a .approx)) (now (a .detail)) (now (a .scratch)) (t .before .before .before .taps-of .ensures) (t .before .before .analysis-answer .ensures) (t .analysis .ensures) (e .if2 .left)
-
-slice-aggregate-copy-line : tie.Need-slice-aggregate-copy-line
-slice-aggregate-copy-line c = search needs
-
-copy-line-requires : tie.Need-copy-line-requires
-copy-line-requires c κs = omega (arith, lists (c .before) .good .most)
-
-slice-aggregate-copy-line-2 : tie.Need-slice-aggregate-copy-line-2
-slice-aggregate-copy-line-2 c = search needs
-
-copy-line-requires-2 : tie.Need-copy-line-requires-2
-copy-line-requires-2 c κs = let p = lists (c .before .before .before .before) in omega (arith, p .both, p .good .most)
-
 border-of-requires : tie.Need-border-of-requires
 border-of-requires c κs = search needs
 
 line-bands-requires : tie.Need-line-bands-requires
-line-bands-requires c κs = let e = c .before .before .before .before .before .before .before .before .before .before .before .before in let t = e .before in let a = t .before .before .before .before .before .before .before .before .before .before .before .before .args in analysis-ready (a .border) (now (a .low)) (now (a .high)) (now (a .line)) (now (a .approx)) (now (a .detail)) (now (a .scratch)) (t .before .before .before .taps-of .ensures) (t .before .before .analysis-answer .ensures) (t .analysis .ensures) (e .if2 .left)
+line-bands-requires c κs = let e = c .before .before .before .before in let t = e .before in let a = t .before .before .before .before .before .before .before .before .before .before .before .before .args in (
+  analysis-lent (a .border) (now (a .low)) (now (a .high)) (now (a .line)) (now (a .approx)) (now (a .detail)) (now (a .scratch)) (t .before .before .before .taps-of .ensures) (t .before .before .analysis-answer .ensures) (t .analysis .ensures) (e .if2 .left),
+  analysis-ready (a .border) (now (a .low)) (now (a .high)) (now (a .line)) (now (a .approx)) (now (a .detail)) (now (a .scratch)) (t .before .before .before .taps-of .ensures) (t .before .before .analysis-answer .ensures) (t .analysis .ensures) (e .if2 .left),
+)
 
 same-length : tie.Need-same-length
 same-length c = search needs
@@ -63,11 +47,12 @@ same-length-3 c = search needs
 
 returns-3 : tie.Need-returns-3
 returns-3 c = let w = c .before .before .before .before .before .before in
-    let e = w .before .before .before .before .before .before .before .before .before .before .before .before .before in
+    let o = w .before .before .before .before in
+    let e = o .before in
     let t = e .before in
     let b = t .before .before .before .before in
-    analysis-done _ _ _ _ _ _ _ (t .before .before .before .taps-of .ensures) (t .before .before .analysis-answer .ensures) (t .analysis .ensures) _ (sym (b .before .no-border .ensures) ∙ b .if1 .left) (e .if2 .left) (w .before .before .before .before .border-of .ensures)
-    (w .before .before .before .before .before .before .before .before .before .before .before .copy-line .ensures) (w .before .before .before .before .before .before .before .before .copy-line2 .ensures) (w .line-bands .ensures .0) (w .line-bands .ensures .1) (w .line-bands .ensures .2)
+    analysis-done _ _ _ _ _ _ _ (t .before .before .before .taps-of .ensures) (t .before .before .analysis-answer .ensures) (t .analysis .ensures) (sym (b .before .no-border .ensures) ∙ b .if1 .left) (e .if2 .left) (o .border-of .ensures)
+    (w .line-bands .ensures .0) (w .line-bands .ensures .1) (w .line-bands .ensures .2)
 
 pub analyse-spec : {M : Type 1} → statement M
 analyse-spec =
@@ -80,10 +65,6 @@ analyse-spec =
     analysis-answer-requires
     analysis-requires
     returns-2
-    slice-aggregate-copy-line
-    copy-line-requires
-    slice-aggregate-copy-line-2
-    copy-line-requires-2
     border-of-requires
     line-bands-requires
     same-length

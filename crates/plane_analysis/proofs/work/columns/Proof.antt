@@ -44,32 +44,32 @@ turn f base m h start s lo hi c a l = record {
 }
 
 lengths : (c : tie.In-loop Inv-loop μ-loop)
-    → let s = c .before .before .before .before .before in
+    → let s = c .before .before .before .before .before .before .before in
     let a = s .args in
     Turn (a .f) (a .base) (a .m) (a .height) (a .start) (length (now (a .scratch))) (length (now (a .lo))) (length (now (a .hi))) (c .before .loop .c)
-lengths c = let s = c .before .before .before .before .before in let a = s .args in turn (a .f) (a .base) (a .m) (a .height) (a .start) _ _ _ (c .before .loop .c) (s .pre) (c .loop-test .taken)
+lengths c = let s = c .before .before .before .before .before .before .before in let a = s .args in turn (a .f) (a .base) (a .m) (a .height) (a .start) _ _ _ (c .before .loop .c) (s .pre .1) (c .loop-test .taken)
 
 add-b : tie.Need-add-b Inv-loop μ-loop
-add-b c = let s = c .before .before .before in omega (arith, s .pre .ready .limit, s .pre .ready .taps .most)
+add-b c = let s = c .before .before .before .before .before in omega (arith, s .pre .1 .ready .limit, s .pre .1 .ready .taps .most)
 
 sub-b : tie.Need-sub-b Inv-loop μ-loop
-sub-b c = let s = c .before .before .before in omega (arith, s .pre .ready .taps .two)
+sub-b c = let s = c .before .before .before .before .before in omega (arith, s .pre .1 .ready .taps .two)
 
 mul-end : tie.Need-mul-end Inv-loop μ-loop
-mul-end c = let s = c .before .before .before in omega (arith, s .pre .ready .limit, s .pre .ready .taps .most)
+mul-end c = let s = c .before .before .before .before .before in omega (arith, s .pre .1 .ready .limit, s .pre .1 .ready .taps .most)
 
 add-end : tie.Need-add-end Inv-loop μ-loop
-add-end c = let s = c .before .before .before in omega (arith, s .pre .ready .limit, s .pre .ready .taps .most)
+add-end c = let s = c .before .before .before .before .before in omega (arith, s .pre .1 .ready .limit, s .pre .1 .ready .taps .most)
 
 sub-end : tie.Need-sub-end Inv-loop μ-loop
-sub-end c = let s = c .before .before .before in omega (arith, s .pre .ready .taps .two)
+sub-end c = let s = c .before .before .before .before .before in omega (arith, s .pre .1 .ready .taps .two)
 
 add-end-2 : tie.Need-add-end-2 Inv-loop μ-loop
-add-end-2 c = let s = c .before .before .before in omega (arith, s .pre .room)
+add-end-2 c = let s = c .before .before .before .before .before in omega (arith, s .pre .1 .room)
 
 loop-holds : tie.Need-loop-holds Inv-loop μ-loop
 loop-holds c =
-    let a = c .before .before .before .args in
+    let a = c .before .before .before .before .before .args in
     let x = now (a .scratch) in (
       search needs,
       record { long = refl; front = refl; beyond = refl },
@@ -86,24 +86,24 @@ add-pad-within : tie.Need-add-pad-within Inv-loop μ-loop
 add-pad-within c = omega (arith, lengths (c .before) .line, lengths (c .before) .room)
 
 sub-pad-within : tie.Need-sub-pad-within Inv-loop μ-loop
-sub-pad-within c = c .before .before .before .before .before .before .pre .ready .taps .two
+sub-pad-within c = c .before .before .before .before .before .before .before .before .pre .1 .ready .taps .two
 
 mul-pad-within-2 : tie.Need-mul-pad-within-2 Inv-loop μ-loop
-mul-pad-within-2 c = let s = c .before .before .before .before .before .before in omega (arith, s .pre .ready .limit, s .pre .ready .taps .most)
+mul-pad-within-2 c = let s = c .before .before .before .before .before .before .before .before in omega (arith, s .pre .1 .ready .limit, s .pre .1 .ready .taps .most)
 
 sub-pad-within-2 : tie.Need-sub-pad-within-2 Inv-loop μ-loop
-sub-pad-within-2 c = let s = c .before .before .before .before .before .before in omega (arith, s .pre .ready .enough, s .pre .ready .taps .two)
+sub-pad-within-2 c = let s = c .before .before .before .before .before .before .before .before in omega (arith, s .pre .1 .ready .enough, s .pre .1 .ready .taps .two)
 
 pad-within-requires : tie.Need-pad-within-requires Inv-loop μ-loop
 pad-within-requires c κs =
     let w = c .before in
     let l = w .before in
-    let s = l .before .before .before .before in
+    let s = l .before .before .before .before .before .before in
     let a = s .args in
     let t = lengths w in
-    let e = whole (a .height) (a .f) (s .pre .ready) in
+    let e = whole (a .height) (a .f) (s .pre .1 .ready) in
     record {
-      pads = pads (a .border) (a .height) (a .f) (s .pre .ready);
+      pads = pads (a .border) (a .height) (a .f) (s .pre .1 .ready);
       line = omega (arith, t .line, t .room, l .loop .inv .1 .long);
       room = omega (arith, e, t .room, l .loop .inv .1 .long);
       apart = inr (t .line);
@@ -156,14 +156,14 @@ bands-requires c κs =
     let p = c .before .before .before .before .before .before in
     let w = p .before .before in
     let l = w .before in
-    let s = l .before .before .before .before in
+    let s = l .before .before .before .before .before .before in
     let a = s .args in
     let t = lengths w in
     let from = l .loop .c * pairs (a .height) (a .f) in
     let lo = mid-len from (from + pairs (a .height) (a .f)) (l .loop .lo) (omega (arith, t .lows, l .loop .inv .2)) in
     let hi = mid-len from (from + pairs (a .height) (a .f)) (l .loop .hi) (omega (arith, t .highs, l .loop .inv .3)) in
     let line = mid-len (a .start) (a .start + (2 * pairs (a .height) (a .f) + a .f - 2)) (p .pad-within .last .1 .0) (omega (arith, t .room, l .loop .inv .1 .long, p .pad-within .kept .1 .0)) in
-    record { most = s .pre .ready .taps .most; both = hi ∙ sym lo; within = omega (arith, lo, line, s .pre .ready .taps .two) }
+    record { lows = s .pre .0 .lows; highs = s .pre .0 .highs; both = hi ∙ sym lo; within = omega (arith, lo, line, s .pre .1 .ready .taps .two) }
 
 add-c : tie.Need-add-c Inv-loop μ-loop
 add-c c = omega (arith, c .before .before .before .before .before .before .before .before .before .before .before .before .before .loop-test .taken)
@@ -177,7 +177,7 @@ loop-again c =
     let p = c .before .before .before .before .before .before .before .before .before .before .before in
     let w = p .before .before in
     let l = w .before in
-    let s = l .before .before .before .before in
+    let s = l .before .before .before .before .before .before in
     let a = s .args in
     let t = lengths w in
     let i = l .loop .inv in
@@ -190,18 +190,18 @@ loop-again c =
     let part = mid-len from (from + B) (l .loop .lo) (omega (arith, t .lows, i .2)) in
     let lo : length (take (from + B - from) (drop from (l .loop .lo))) ≡ B = omega (arith, part) in (
       omega (arith, w .loop-test .taken),
-      still-next binary64 (now (a .low)) (a .f) (a .border) (a .base) (a .m) (a .height) (a .start) end k x (l .loop .scratch) zs (w .loop-test .taken) (s .pre .ready .taps .two) (s .pre .ready .enough)
-          refl (s .pre .before) (t .room) (i .1) (p .pad-within .ensures),
+      still-next binary64 (now (a .low)) (a .f) (a .border) (a .base) (a .m) (a .height) (a .start) end k x (l .loop .scratch) zs (w .loop-test .taken) (s .pre .1 .ready .taps .two) (s .pre .1 .ready .enough)
+          refl (s .pre .1 .before) (t .room) (i .1) (p .pad-within .ensures),
       same-len-mid from (from + B - from) (l .loop .lo) (q .bands .last .1 .1 .1 .1 .0) (q .bands .kept .1 .1 .1 .1 .0) ∙ i .2,
       same-len-mid from (from + B - from) (l .loop .hi) (q .bands .last .1 .1 .1 .1 .1 .0) (q .bands .kept .1 .1 .1 .1 .1 .0) ∙ i .3,
-      filling-next (λ k. band binary64 (now (a .low)) (a .f) (a .border) (lineOf (a .height) (drop (a .base) x) k)) B k (from + B) (now (a .lo)) (λ j h. each-band binary64 (now (a .low)) (a .f) (a .border) (a .base) (a .m) (a .height) x (omega (arith, s .pre .before, t .room)) j (omega (arith, h, w .loop-test .taken)))
+      filling-next (λ k. band binary64 (now (a .low)) (a .f) (a .border) (lineOf (a .height) (drop (a .base) x) k)) B k (from + B) (now (a .lo)) (λ j h. each-band binary64 (now (a .low)) (a .f) (a .border) (a .base) (a .m) (a .height) x (omega (arith, s .pre .1 .before, t .room)) j (omega (arith, h, w .loop-test .taken)))
           (omega (arith, t .lows, one-more k B)) refl (i .4)
-          (q .bands .ensures .0 ∙ column-made binary64 (now (a .low)) (a .f) (a .border) (a .base) (a .m) (a .height) (a .start) end k x (l .loop .scratch) zs (w .loop-test .taken) (s .pre .ready .taps .two) (s .pre .ready .enough)
-          refl (s .pre .before) (t .room) (i .1) (p .pad-within .ensures) _ _ refl lo),
-      filling-next (λ k. band binary64 (now (a .high)) (a .f) (a .border) (lineOf (a .height) (drop (a .base) x) k)) B k (from + B) (now (a .hi)) (λ j h. each-band binary64 (now (a .high)) (a .f) (a .border) (a .base) (a .m) (a .height) x (omega (arith, s .pre .before, t .room)) j (omega (arith, h, w .loop-test .taken)))
+          (q .bands .ensures .0 ∙ column-made binary64 (now (a .low)) (a .f) (a .border) (a .base) (a .m) (a .height) (a .start) end k x (l .loop .scratch) zs (w .loop-test .taken) (s .pre .1 .ready .taps .two) (s .pre .1 .ready .enough)
+          refl (s .pre .1 .before) (t .room) (i .1) (p .pad-within .ensures) _ _ refl lo),
+      filling-next (λ k. band binary64 (now (a .high)) (a .f) (a .border) (lineOf (a .height) (drop (a .base) x) k)) B k (from + B) (now (a .hi)) (λ j h. each-band binary64 (now (a .high)) (a .f) (a .border) (a .base) (a .m) (a .height) x (omega (arith, s .pre .1 .before, t .room)) j (omega (arith, h, w .loop-test .taken)))
           (omega (arith, t .highs, one-more k B)) refl (i .5)
-          (q .bands .ensures .1 ∙ column-made binary64 (now (a .high)) (a .f) (a .border) (a .base) (a .m) (a .height) (a .start) end k x (l .loop .scratch) zs (w .loop-test .taken) (s .pre .ready .taps .two) (s .pre .ready .enough)
-          refl (s .pre .before) (t .room) (i .1) (p .pad-within .ensures) _ _ refl lo),
+          (q .bands .ensures .1 ∙ column-made binary64 (now (a .high)) (a .f) (a .border) (a .base) (a .m) (a .height) (a .start) end k x (l .loop .scratch) zs (w .loop-test .taken) (s .pre .1 .ready .taps .two) (s .pre .1 .ready .enough)
+          refl (s .pre .1 .before) (t .room) (i .1) (p .pad-within .ensures) _ _ refl lo),
     )
 
 same-length : tie.Need-same-length Inv-loop μ-loop
@@ -216,12 +216,12 @@ same-length-3 c = c .before .loop .inv .3
 returns : tie.Need-returns Inv-loop μ-loop
 returns c =
     let l = c .before in
-    let s = l .before .before .before .before in
+    let s = l .before .before .before .before .before .before in
     let a = s .args in
     let i = l .loop .inv in
     let e : l .loop .c ≡ a .m = omega (arith, i .0, c .loop-test .left) in (
-      filling-all (λ k. band binary64 (now (a .low)) (a .f) (a .border) (lineOf (a .height) (drop (a .base) (now (a .scratch))) k)) (pairs (a .height) (a .f)) (l .loop .c) (a .m) (now (a .lo)) (i .4) e (s .pre .lows),
-      filling-all (λ k. band binary64 (now (a .high)) (a .f) (a .border) (lineOf (a .height) (drop (a .base) (now (a .scratch))) k)) (pairs (a .height) (a .f)) (l .loop .c) (a .m) (now (a .hi)) (i .5) e (s .pre .highs),
+      filling-all (λ k. band binary64 (now (a .low)) (a .f) (a .border) (lineOf (a .height) (drop (a .base) (now (a .scratch))) k)) (pairs (a .height) (a .f)) (l .loop .c) (a .m) (now (a .lo)) (i .4) e (s .pre .1 .lows),
+      filling-all (λ k. band binary64 (now (a .high)) (a .f) (a .border) (lineOf (a .height) (drop (a .base) (now (a .scratch))) k)) (pairs (a .height) (a .f)) (l .loop .c) (a .m) (now (a .hi)) (i .5) e (s .pre .1 .highs),
       i .1,
     )
 

@@ -37,25 +37,25 @@ turn f w h m p s start r a l = record {
 }
 
 lengths : (c : tie.In-loop Inv-loop μ-loop)
-    → let s = c .before .before .before .before in
+    → let s = c .before .before .before .before .before .before in
     let a = s .args in
     Turn (a .f) (a .width) (a .height) (a .m) (length (now (a .plane))) (length (now (a .scratch))) (a .start) (c .before .loop .r)
-lengths c = let s = c .before .before .before .before in let a = s .args in turn (a .f) (a .width) (a .height) (a .m) _ _ (a .start) (c .before .loop .r) (s .pre) (c .loop-test .taken)
+lengths c = let s = c .before .before .before .before .before .before in let a = s .args in turn (a .f) (a .width) (a .height) (a .m) _ _ (a .start) (c .before .loop .r) (s .pre .1) (c .loop-test .taken)
 
 mul-end : tie.Need-mul-end Inv-loop μ-loop
-mul-end c = let s = c .before .before in omega (arith, s .pre .room, s .pre .many, s .pre .ready .taps .two)
+mul-end c = let s = c .before .before .before .before in omega (arith, s .pre .1 .room, s .pre .1 .many, s .pre .1 .ready .taps .two)
 
 add-end : tie.Need-add-end Inv-loop μ-loop
-add-end c = let s = c .before .before in omega (arith, s .pre .room, s .pre .many, s .pre .ready .taps .two)
+add-end c = let s = c .before .before .before .before in omega (arith, s .pre .1 .room, s .pre .1 .many, s .pre .1 .ready .taps .two)
 
 sub-end : tie.Need-sub-end Inv-loop μ-loop
-sub-end c = let s = c .before .before in omega (arith, s .pre .ready .taps .two)
+sub-end c = let s = c .before .before .before .before in omega (arith, s .pre .1 .ready .taps .two)
 
 add-end-2 : tie.Need-add-end-2 Inv-loop μ-loop
-add-end-2 c = let s = c .before .before in omega (arith, s .pre .room, s .pre .many)
+add-end-2 c = let s = c .before .before .before .before in omega (arith, s .pre .1 .room, s .pre .1 .many)
 
 loop-holds : tie.Need-loop-holds Inv-loop μ-loop
-loop-holds c = let a = c .before .before .args in (search needs, rowed-none binary64 (now (a .low)) (now (a .high)) (a .f) (a .border) (now (a .plane)) (a .width) (a .height) (a .m) (c .before .before .pre .many) (c .before .before .pre .filled) _ (now (a .scratch)))
+loop-holds c = let a = c .before .before .before .before .args in (search needs, rowed-none binary64 (now (a .low)) (now (a .high)) (a .f) (a .border) (now (a .plane)) (a .width) (a .height) (a .m) (c .before .before .before .before .pre .1 .many) (c .before .before .before .before .pre .1 .filled) _ (now (a .scratch)))
 
 mul-from : tie.Need-mul-from Inv-loop μ-loop
 mul-from c = omega (arith, lengths c .row)
@@ -91,15 +91,15 @@ pad-line-requires : tie.Need-pad-line-requires Inv-loop μ-loop
 pad-line-requires c κs =
     let w = c .before .before in
     let l = w .before in
-    let s = l .before .before .before in
+    let s = l .before .before .before .before .before in
     let a = s .args in
     let t = lengths w in
     let from = l .loop .r * a .width in
     let line = mid-len from (from + a .width) (now (a .plane)) (t .row) in
     let rest = mid-len (a .start) (a .start + (2 * a .m + a .f - 2)) (l .loop .scratch) (omega (arith, t .room, l .loop .inv .1 .long)) in
     record {
-      ready = record { taps = s .pre .ready .taps; limit = omega (arith, line, s .pre .ready .limit); enough = omega (arith, line, s .pre .ready .enough) };
-      room = omega (arith, line, rest, s .pre .many);
+      ready = record { taps = s .pre .1 .ready .taps; limit = omega (arith, line, s .pre .1 .ready .limit); enough = omega (arith, line, s .pre .1 .ready .enough) };
+      room = omega (arith, line, rest, s .pre .1 .many);
     }
 
 add-bands-within : tie.Need-add-bands-within Inv-loop μ-loop
@@ -113,12 +113,13 @@ bands-within-requires c κs =
     let p = c .before .before .before in
     let w = p .before .before .before in
     let l = w .before in
-    let s = l .before .before .before in
+    let s = l .before .before .before .before .before in
     let a = s .args in
     let t = lengths w in
     record {
       two = t .two;
-      most = s .pre .ready .taps .most;
+      lows = s .pre .0 .lows;
+      highs = s .pre .0 .highs;
       before = t .made;
       within = omega (arith, t .room, l .loop .inv .1 .long, same-len-mid (a .start) (a .start + (2 * a .m + a .f - 2) - a .start) (l .loop .scratch) (p .pad-line .last .1 .1 .1 .0) (p .pad-line .kept .1 .1 .1 .0));
     }
@@ -135,17 +136,17 @@ loop-again c =
     let p = q .before .before .before .before in
     let w = p .before .before .before in
     let l = w .before in
-    let s = l .before .before .before in
+    let s = l .before .before .before .before .before in
     let a = s .args in
     let t = lengths w in
     let r = l .loop .r in
     let from = r * a .width in
     let end = a .start + (2 * a .m + a .f - 2) in
-    let e : a .start + paddedLength (a .width) (a .f) ≡ end = omega (arith, s .pre .many) in (
+    let e : a .start + paddedLength (a .width) (a .f) ≡ end = omega (arith, s .pre .1 .many) in (
       omega (arith, w .loop-test .taken),
       subst (λ (n : ℕ). Rowed binary64 (now (a .low)) (now (a .high)) (a .f) (a .border) (now (a .plane)) (a .width) (r + 1) (a .m) n (now (a .scratch)) (q .bands-within .last .1 .1 .1 .0)) (sym e)
-          (rowed-next binary64 (now (a .low)) (now (a .high)) (a .f) (a .border) (now (a .plane)) (a .width) (a .height) (a .m) (s .pre .many) (s .pre .filled)
-          r (a .start) end (now (a .scratch)) (l .loop .scratch) (p .pad-line .last .1 .1 .1 .0) (q .bands-within .last .1 .1 .1 .0) _ _ (w .loop-test .taken) (t .two) refl (s .pre .before) (t .room)
+          (rowed-next binary64 (now (a .low)) (now (a .high)) (a .f) (a .border) (now (a .plane)) (a .width) (a .height) (a .m) (s .pre .1 .many) (s .pre .1 .filled)
+          r (a .start) end (now (a .scratch)) (l .loop .scratch) (p .pad-line .last .1 .1 .1 .0) (q .bands-within .last .1 .1 .1 .0) _ _ (w .loop-test .taken) (t .two) refl (s .pre .1 .before) (t .room)
           (subst (λ (n : ℕ). Rowed binary64 (now (a .low)) (now (a .high)) (a .f) (a .border) (now (a .plane)) (a .width) r (a .m) n (now (a .scratch)) (l .loop .scratch)) e (l .loop .inv .1))
           (ap (λ (n : ℕ). take n (drop from (now (a .plane)))) (let z : from + a .width - from ≡ a .width = omega arith in z))
           (mid-len (a .start) end (l .loop .scratch) (omega (arith, t .room, l .loop .inv .1 .long)))
@@ -158,7 +159,7 @@ same-length c = c .before .loop .inv .1 .long
 returns : tie.Need-returns Inv-loop μ-loop
 returns c =
     let l = c .before in
-    let a = l .before .before .before .args in
+    let a = l .before .before .before .before .before .args in
     subst (λ (r : ℕ). Rowed binary64 (now (a .low)) (now (a .high)) (a .f) (a .border) (now (a .plane)) (a .width) r (a .m) (a .start + paddedLength (a .width) (a .f)) (now (a .scratch)) (l .loop .scratch))
     (let z : l .loop .r ≡ a .height = omega (arith, l .loop .inv .0, c .loop-test .left) in z) (l .loop .inv .1)
 

@@ -12,52 +12,52 @@ use Rattle.plane_analysis.proofs.work.split_plane.Statement.{statement}
 use Rattle.plane_analysis.proofs.work.split_plane.Tie as tie
 
 add-m : tie.Need-add-m
-add-m c = let s = c .before .before .before .before .before .before .pre .held .sides in omega (arith, s .across, s .taps .most)
+add-m c = let s = c .before .before .before .before .before .before .before .before .pre .1 .held .sides in omega (arith, s .across, s .taps .most)
 
 sub-m : tie.Need-sub-m
-sub-m c = omega (arith, c .before .before .before .before .before .before .pre .held .sides .wide)
+sub-m c = omega (arith, c .before .before .before .before .before .before .before .before .pre .1 .held .sides .wide)
 
 add-area : tie.Need-add-area
-add-area c = omega (arith, few-pairs (c .before .before .before .before .before .before .pre .held .sides))
+add-area c = omega (arith, few-pairs (c .before .before .before .before .before .before .before .before .pre .1 .held .sides))
 
 mul-area : tie.Need-mul-area
-mul-area c = let s = c .before .before .before .before .before .before in omega (arith, row-area (s .pre .held .sides), area-halves (s .args .height) (pairs (s .args .width) (s .args .f)))
+mul-area c = let s = c .before .before .before .before .before .before .before .before in omega (arith, row-area (s .pre .1 .held .sides), area-halves (s .args .height) (pairs (s .args .width) (s .args .f)))
 
 add-start : tie.Need-add-start
-add-start c = let s = c .before .before .before .before .before .before in omega (arith, row-area (s .pre .held .sides), area-halves (s .args .height) (pairs (s .args .width) (s .args .f)))
+add-start c = let s = c .before .before .before .before .before .before .before .before in omega (arith, row-area (s .pre .1 .held .sides), area-halves (s .args .height) (pairs (s .args .width) (s .args .f)))
 
 rows-requires : tie.Need-rows-requires
-rows-requires c κs = rowing (c .before .before .before .before .before .before .before .pre)
+rows-requires c κs = let s = c .before .before .before .before .before .before .before .before .before in (s .pre .0, rowing (s .pre .1))
 
 add-cross : tie.Need-add-cross
-add-cross c = omega (arith, few-pairs (c .before .before .before .before .before .before .before .before .before .before .before .pre .held .sides))
+add-cross c = omega (arith, few-pairs (c .before .before .before .before .before .before .before .before .before .before .before .before .before .pre .1 .held .sides))
 
 cross-requires : tie.Need-cross-requires
-cross-requires c κs = let t = crossable (c .before .before .before .before .before .before .before .before .before .before .before .pre) (c .before .before .before .rows .ensures .long) in omega (arith, t)
+cross-requires c κs = let t = crossable (c .before .before .before .before .before .before .before .before .before .before .before .before .before .pre .1) (c .before .before .before .rows .ensures .long) in omega (arith, t)
 
 columns-requires : tie.Need-columns-requires
 columns-requires c κs =
     let k = c .before .before .before .before .before in
     let r = k .before .before .before .before in
-    let s = c .before .before .before .before .before .before .before .before .before .before .before .before .before .before .before .before .before in
+    let s = c .before .before .before .before .before .before .before .before .before .before .before .before .before .before .before .before .before .before .before in
     let a = s .args in
-    columning (s .pre) (a .height * (pairs (a .width) (a .f) + pairs (a .width) (a .f))) (omega (arith, area-halves (a .height) (pairs (a .width) (a .f)))) (k .cross .kept .0 ∙ r .rows .ensures .long) (s .pre .bands .first) (s .pre .bands .second)
+    (s .pre .0, columning (s .pre .1) (a .height * (pairs (a .width) (a .f) + pairs (a .width) (a .f))) (omega (arith, area-halves (a .height) (pairs (a .width) (a .f)))) (k .cross .kept .0 ∙ r .rows .ensures .long) (s .pre .1 .bands .first) (s .pre .1 .bands .second))
 
 mul-columns : tie.Need-mul-columns
-mul-columns c = omega (arith, row-area (c .before .before .before .before .before .before .before .before .before .before .before .before .before .before .before .before .before .before .before .before .before .before .before .before .before .pre .held .sides))
+mul-columns c = omega (arith, row-area (c .before .before .before .before .before .before .before .before .before .before .before .before .before .before .before .before .before .before .before .before .before .before .before .before .before .before .before .pre .1 .held .sides))
 
 add-columns : tie.Need-add-columns
-add-columns c = let s = c .before .before .before .before .before .before .before .before .before .before .before .before .before .before .before .before .before .before .before .before .before .before .before .before .before in omega (arith, row-area (s .pre .held .sides), area-halves (s .args .height) (pairs (s .args .width) (s .args .f)))
+add-columns c = let s = c .before .before .before .before .before .before .before .before .before .before .before .before .before .before .before .before .before .before .before .before .before .before .before .before .before .before .before in omega (arith, row-area (s .pre .1 .held .sides), area-halves (s .args .height) (pairs (s .args .width) (s .args .f)))
 
 columns-requires-2 : tie.Need-columns-requires-2
 columns-requires-2 c κs =
     let l = c .before .before .before .before .before .before .before .before .before in
     let k = c .before .before .before .before .before .before .before .before .before .before .before .before .before .before .before in
     let r = k .before .before .before .before in
-    let s = c .before .before .before .before .before .before .before .before .before .before .before .before .before .before .before .before .before .before .before .before .before .before .before .before .before .before .before in
+    let s = c .before .before .before .before .before .before .before .before .before .before .before .before .before .before .before .before .before .before .before .before .before .before .before .before .before .before .before .before .before in
     let a = s .args in
     let m = pairs (a .width) (a .f) in
-    columning (s .pre) (a .height * (m + m) + m * a .height) (omega (arith, area-halves (a .height) m)) (l .columns .ensures .2 .long ∙ k .cross .kept .0 ∙ r .rows .ensures .long) (s .pre .bands .third) (s .pre .bands .fourth)
+    (s .pre .0, columning (s .pre .1) (a .height * (m + m) + m * a .height) (omega (arith, area-halves (a .height) m)) (l .columns .ensures .2 .long ∙ k .cross .kept .0 ∙ r .rows .ensures .long) (s .pre .1 .bands .third) (s .pre .1 .bands .fourth))
 
 same-length : tie.Need-same-length
 same-length c = c .before .before .before .before .before .before .before .before .before .before .before .before .before .before .before .before .columns .kept .1 .1 .1 .1 .1 .1 .1 .1 .1 .0
@@ -80,9 +80,9 @@ returns c =
     let k = c .before .before .before .before .before .before .before .before .before .before .before .before .before .before .before .before in
     let q = c .before .before .before .before .before .before .before .before .before .before .before .before .before .before .before .before .before .before .before .before .before .before in
     let r = c .before .before .before .before .before .before .before .before .before .before .before .before .before .before .before .before .before .before .before .before .before .before .before .before .before .before in
-    let s = c .before .before .before .before .before .before .before .before .before .before .before .before .before .before .before .before .before .before .before .before .before .before .before .before .before .before .before .before .before .before .before .before .before .before in
+    let s = c .before .before .before .before .before .before .before .before .before .before .before .before .before .before .before .before .before .before .before .before .before .before .before .before .before .before .before .before .before .before .before .before .before .before .before .before in
     let a = s .args in
-    split (s .pre) binary64 (now (a .low)) (now (a .high)) (a .border) (now (a .plane)) (now (a .scratch)) (r .rows .last .1 .1 .1 .1 .1 .1 .1 .1 .1 .0) (q .cross .last .0) (k .columns .last .1 .1 .1 .1 .0) (l .columns2 .last .1 .1 .1 .1 .0)
+    split (s .pre .1) binary64 (now (a .low)) (now (a .high)) (a .border) (now (a .plane)) (now (a .scratch)) (r .rows .last .1 .1 .1 .1 .1 .1 .1 .1 .1 .0) (q .cross .last .0) (k .columns .last .1 .1 .1 .1 .0) (l .columns2 .last .1 .1 .1 .1 .0)
     (k .columns .last .1 .1 .1 .1 .1 .1 .1 .1 .1 .0) (k .columns .last .1 .1 .1 .1 .1 .1 .1 .1 .1 .1 .0) (l .columns2 .last .1 .1 .1 .1 .1 .1 .1 .1 .1 .0) (l .columns2 .last .1 .1 .1 .1 .1 .1 .1 .1 .1 .1 .0)
     refl refl (r .rows .ensures) (q .cross .ensures) (q .cross .kept .0) (k .columns .ensures .2) (l .columns2 .ensures .2)
     (k .columns .ensures .0) (k .columns .ensures .1) (l .columns2 .ensures .0) (l .columns2 .ensures .1)

@@ -1,9 +1,6 @@
--- `synthesise_plane` meets its contract: a refusal is told; else every test passed, and the work over arrays that the lists were copied to is over the lists.
-use Rattle.line_calls.specs.Pairs.{Paired}
-use Rattle.plane_calls.specs.Calls.{synthesis-ready, synthesis-lists, synthesis-refused, synthesis-done}
+-- `synthesise_plane` meets its contract: a refusal is told; else every test passed, which gives the work what it asks for.
+use Rattle.plane_calls.specs.Calls.{synthesis-ready, synthesis-lent, synthesis-refused, synthesis-done}
 use denote.Ref.{now}
-use lib.ListN.{length}
-use native.Mathlib.Omega.{arith}
 use borrow.Author.Needs.{needs}
 use Rattle.plane_calls.proofs.joining.synthesise_plane.Statement.{statement}
 use Rattle.plane_calls.proofs.joining.synthesise_plane.Tie as tie
@@ -20,28 +17,14 @@ plane-told-requires c κs = search needs
 returns : tie.Need-returns
 returns c = let t = c .before in synthesis-refused _ _ _ _ _ _ _ _ _ _ (t .before .before .before .taps-of .ensures) (t .before .before .plane-synthesis-answer .ensures) (t .plane-told .ensures) (c .if1 .taken)
 
--- the lists where the tests passed
-lists : (e : tie.Else1) → let a = e .before .before .before .before .before .before .before .before .before .before .before .before .before .args in Paired (length (now (a .low))) (length (now (a .high)))
-lists e = let t = e .before in let a = t .before .before .before .before .before .before .before .before .before .before .before .before .args in
-    synthesis-lists (now (a .low)) (now (a .high)) (now (a .ll)) (now (a .lh)) (now (a .hl)) (now (a .hh)) (a .width) (a .height) (now (a .plane)) (now (a .scratch))
-    (t .before .before .before .taps-of .ensures) (t .before .before .plane-synthesis-answer .ensures) (t .plane-told .ensures) (e .if1 .left)
-
-slice-aggregate-copy-to : tie.Need-slice-aggregate-copy-to
-slice-aggregate-copy-to c = search needs
-
-copy-to-requires : tie.Need-copy-to-requires
-copy-to-requires c κs = omega (arith, lists (c .before) .good .most)
-
-slice-aggregate-copy-to-2 : tie.Need-slice-aggregate-copy-to-2
-slice-aggregate-copy-to-2 c = search needs
-
-copy-to-requires-2 : tie.Need-copy-to-requires-2
-copy-to-requires-2 c κs = let p = lists (c .before .before .before .before) in omega (arith, p .both, p .good .most)
-
 join-plane-requires : tie.Need-join-plane-requires
-join-plane-requires c κs = let e = c .before .before .before .before .before .before .before .before .before .before in let t = e .before in let a = t .before .before .before .before .before .before .before .before .before .before .before .before .args in
-    synthesis-ready (now (a .low)) (now (a .high)) (now (a .ll)) (now (a .lh)) (now (a .hl)) (now (a .hh)) (a .width) (a .height) (now (a .plane)) (now (a .scratch))
-    (t .before .before .before .taps-of .ensures) (t .before .before .plane-synthesis-answer .ensures) (t .plane-told .ensures) (e .if1 .left)
+join-plane-requires c κs = let e = c .before .before in let t = e .before in let a = t .before .before .before .before .before .before .before .before .before .before .before .before .args in
+    let b = synthesis-lent (now (a .low)) (now (a .high)) (now (a .ll)) (now (a .lh)) (now (a .hl)) (now (a .hh)) (a .width) (a .height) (now (a .plane)) (now (a .scratch))
+    (t .before .before .before .taps-of .ensures) (t .before .before .plane-synthesis-answer .ensures) (t .plane-told .ensures) (e .if1 .left) in (
+      b,
+      synthesis-ready (now (a .low)) (now (a .high)) (now (a .ll)) (now (a .lh)) (now (a .hl)) (now (a .hh)) (a .width) (a .height) (now (a .plane)) (now (a .scratch))
+          (t .before .before .before .taps-of .ensures) (t .before .before .plane-synthesis-answer .ensures) (t .plane-told .ensures) (e .if1 .left),
+    )
 
 same-length : tie.Need-same-length
 same-length c = search needs
@@ -50,8 +33,8 @@ same-length-2 : tie.Need-same-length-2
 same-length-2 c = search needs
 
 returns-2 : tie.Need-returns-2
-returns-2 c = let w = c .before .before .before .before in let e = w .before .before .before .before .before .before .before .before .before .before .before in let t = e .before in
-    synthesis-done _ _ _ _ _ _ _ _ _ _ (t .before .before .before .taps-of .ensures) (t .before .before .plane-synthesis-answer .ensures) (t .plane-told .ensures) _ (e .if1 .left) (w .before .before .before .before .before .before .before .before .before .copy-to .ensures) (w .before .before .before .before .before .before .copy-to2 .ensures) (w .join-plane .ensures)
+returns-2 c = let w = c .before .before .before .before in let e = w .before .before .before in let t = e .before in
+    synthesis-done _ _ _ _ _ _ _ _ _ _ (t .before .before .before .taps-of .ensures) (t .before .before .plane-synthesis-answer .ensures) (t .plane-told .ensures) (e .if1 .left) (w .join-plane .ensures)
 
 pub synthesise-plane-spec : {M : Type 1} → statement M
 synthesise-plane-spec =
@@ -61,10 +44,6 @@ synthesise-plane-spec =
     plane-synthesis-answer-requires
     plane-told-requires
     returns
-    slice-aggregate-copy-to
-    copy-to-requires
-    slice-aggregate-copy-to-2
-    copy-to-requires-2
     join-plane-requires
     same-length
     same-length-2

@@ -1,10 +1,7 @@
--- `analyse_plane` meets its contract: without a border nothing is done; a refusal is told; else every test passed, and the work over arrays that the lists were copied to is over the lists.
-use Rattle.line_calls.specs.Pairs.{Paired}
-use Rattle.plane_calls.specs.Calls.{analysis-hidden, analysis-ready, analysis-lists, analysis-refused, analysis-done}
+-- `analyse_plane` meets its contract: without a border nothing is done; a refusal is told; else every test passed, and the work is over the lists as they are lent.
+use Rattle.plane_calls.specs.Calls.{analysis-hidden, analysis-ready, analysis-lent, analysis-refused, analysis-done}
 use denote.Ref.{now}
-use lib.ListN.{length}
 use mathlib.Core.Path.{sym, _∙_}
-use native.Mathlib.Omega.{arith}
 use borrow.Author.Needs.{needs}
 use Rattle.plane_calls.proofs.splitting.analyse_plane.Statement.{statement}
 use Rattle.plane_calls.proofs.splitting.analyse_plane.Tie as tie
@@ -30,31 +27,16 @@ plane-told-requires c κs = search needs
 returns-2 : tie.Need-returns-2
 returns-2 c = let t = c .before in let b = t .before .before .before .before in analysis-refused _ _ _ _ _ _ _ _ _ _ _ (t .before .before .before .taps-of .ensures) (t .before .before .plane-analysis-answer .ensures) (t .plane-told .ensures) (sym (b .before .no-border .ensures) ∙ b .if1 .left) (c .if2 .taken)
 
--- the lists where the tests passed
-lists : (e : tie.Else2) → let a = e .before .before .before .before .before .before .before .before .before .before .before .before .before .before .before .args in Paired (length (now (a .low))) (length (now (a .high)))
-lists e = let t = e .before in let a = t .before .before .before .before .before .before .before .before .before .before .before .before .before .before .args in
-    analysis-lists (a .border) (now (a .low)) (now (a .high)) (now (a .plane)) (a .width) (a .height) (now (a .ll)) (now (a .lh)) (now (a .hl)) (now (a .hh)) (now (a .scratch))
-    (t .before .before .before .taps-of .ensures) (t .before .before .plane-analysis-answer .ensures) (t .plane-told .ensures) (e .if2 .left)
-
-slice-aggregate-copy-to : tie.Need-slice-aggregate-copy-to
-slice-aggregate-copy-to c = search needs
-
-copy-to-requires : tie.Need-copy-to-requires
-copy-to-requires c κs = omega (arith, lists (c .before) .good .most)
-
-slice-aggregate-copy-to-2 : tie.Need-slice-aggregate-copy-to-2
-slice-aggregate-copy-to-2 c = search needs
-
-copy-to-requires-2 : tie.Need-copy-to-requires-2
-copy-to-requires-2 c κs = let p = lists (c .before .before .before .before) in omega (arith, p .both, p .good .most)
-
 border-of-requires : tie.Need-border-of-requires
 border-of-requires c κs = search needs
 
 split-plane-requires : tie.Need-split-plane-requires
-split-plane-requires c κs = let e = c .before .before .before .before .before .before .before .before .before .before .before .before .before .before in let t = e .before in let a = t .before .before .before .before .before .before .before .before .before .before .before .before .before .before .args in
-    analysis-ready (a .border) (now (a .low)) (now (a .high)) (now (a .plane)) (a .width) (a .height) (now (a .ll)) (now (a .lh)) (now (a .hl)) (now (a .hh)) (now (a .scratch))
-    (t .before .before .before .taps-of .ensures) (t .before .before .plane-analysis-answer .ensures) (t .plane-told .ensures) (e .if2 .left)
+split-plane-requires c κs = let e = c .before .before .before .before .before .before in let t = e .before in let a = t .before .before .before .before .before .before .before .before .before .before .before .before .before .before .args in (
+  analysis-lent (a .border) (now (a .low)) (now (a .high)) (now (a .plane)) (a .width) (a .height) (now (a .ll)) (now (a .lh)) (now (a .hl)) (now (a .hh)) (now (a .scratch))
+      (t .before .before .before .taps-of .ensures) (t .before .before .plane-analysis-answer .ensures) (t .plane-told .ensures) (e .if2 .left),
+  analysis-ready (a .border) (now (a .low)) (now (a .high)) (now (a .plane)) (a .width) (a .height) (now (a .ll)) (now (a .lh)) (now (a .hl)) (now (a .hh)) (now (a .scratch))
+      (t .before .before .before .taps-of .ensures) (t .before .before .plane-analysis-answer .ensures) (t .plane-told .ensures) (e .if2 .left),
+)
 
 same-length : tie.Need-same-length
 same-length c = search needs
@@ -73,11 +55,11 @@ same-length-5 c = search needs
 
 returns-3 : tie.Need-returns-3
 returns-3 c = let w = c .before .before .before .before .before .before .before .before .before .before in
-    let e = w .before .before .before .before .before .before .before .before .before .before .before .before .before .before .before in
+    let o = w .before .before .before .before .before .before in
+    let e = o .before in
     let t = e .before in
     let b = t .before .before .before .before in
-    analysis-done _ _ _ _ _ _ _ _ _ _ _ (t .before .before .before .taps-of .ensures) (t .before .before .plane-analysis-answer .ensures) (t .plane-told .ensures) _ (sym (b .before .no-border .ensures) ∙ b .if1 .left) (e .if2 .left) (w .before .before .before .before .before .before .border-of .ensures)
-    (w .before .before .before .before .before .before .before .before .before .before .before .before .before .copy-to .ensures) (w .before .before .before .before .before .before .before .before .before .before .copy-to2 .ensures) (w .split-plane .ensures)
+    analysis-done _ _ _ _ _ _ _ _ _ _ _ (t .before .before .before .taps-of .ensures) (t .before .before .plane-analysis-answer .ensures) (t .plane-told .ensures) (sym (b .before .no-border .ensures) ∙ b .if1 .left) (e .if2 .left) (o .border-of .ensures) (w .split-plane .ensures)
 
 pub analyse-plane-spec : {M : Type 1} → statement M
 analyse-plane-spec =
@@ -90,10 +72,6 @@ analyse-plane-spec =
     plane-analysis-answer-requires
     plane-told-requires
     returns-2
-    slice-aggregate-copy-to
-    copy-to-requires
-    slice-aggregate-copy-to-2
-    copy-to-requires-2
     border-of-requires
     split-plane-requires
     same-length

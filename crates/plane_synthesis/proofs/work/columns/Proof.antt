@@ -6,19 +6,19 @@ use Rattle.plane_synthesis.proofs.work.columns.Statement.{statement}
 use Rattle.plane_synthesis.proofs.work.columns.Tie as tie
 
 add-m : tie.Need-add-m
-add-m c = let s = c .before .before .before .pre .even .sides in omega (arith, s .across, s .taps .most)
+add-m c = let s = c .before .before .before .before .before .pre .1 .even .sides in omega (arith, s .across, s .taps .most)
 
 sub-m : tie.Need-sub-m
-sub-m c = let s = c .before .before .before .pre .even .sides in omega (arith, s .wide)
+sub-m c = let s = c .before .before .before .before .before .pre .1 .even .sides in omega (arith, s .wide)
 
 add-b : tie.Need-add-b
-add-b c = let s = c .before .before .before .pre .even .sides in omega (arith, s .down, s .taps .most)
+add-b c = let s = c .before .before .before .before .before .pre .1 .even .sides in omega (arith, s .down, s .taps .most)
 
 sub-b : tie.Need-sub-b
-sub-b c = let s = c .before .before .before .pre .even .sides in omega (arith, s .high)
+sub-b c = let s = c .before .before .before .before .before .pre .1 .even .sides in omega (arith, s .high)
 
 joins-requires : tie.Need-joins-requires
-joins-requires c κs = columns-join (c .before .before .before .before .pre)
+joins-requires c κs = let s = c .before .before .before .before .before .before in (s .pre .0, columns-join (s .pre .1))
 
 same-length : tie.Need-same-length
 same-length c = search needs

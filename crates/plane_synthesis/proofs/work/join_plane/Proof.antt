@@ -16,39 +16,39 @@ use Rattle.plane_synthesis.proofs.work.join_plane.Statement.{statement}
 use Rattle.plane_synthesis.proofs.work.join_plane.Tie as tie
 
 add-m : tie.Need-add-m
-add-m c = let s = c .before .before .before .before .before .before in omega (arith, s .pre .held .sides .across, s .pre .held .sides .taps .most)
+add-m c = let s = c .before .before .before .before .before .before .before .before in omega (arith, s .pre .1 .held .sides .across, s .pre .1 .held .sides .taps .most)
 
 sub-m : tie.Need-sub-m
-sub-m c = let s = c .before .before .before .before .before .before in omega (arith, s .pre .held .sides .wide)
+sub-m c = let s = c .before .before .before .before .before .before .before .before in omega (arith, s .pre .1 .held .sides .wide)
 
 mul-half : tie.Need-mul-half
-mul-half c = let s = c .before .before .before .before .before .before in omega (arith, row-area (s .pre .held .sides))
+mul-half c = let s = c .before .before .before .before .before .before .before .before in omega (arith, row-area (s .pre .1 .held .sides))
 
 add-area : tie.Need-add-area
-add-area c = let s = c .before .before .before .before .before .before in omega (arith, row-area (s .pre .held .sides))
+add-area c = let s = c .before .before .before .before .before .before .before .before in omega (arith, row-area (s .pre .1 .held .sides))
 
 add-end : tie.Need-add-end
-add-end c = let s = c .before .before .before .before .before .before in omega (arith, row-area (s .pre .held .sides))
+add-end c = let s = c .before .before .before .before .before .before .before .before in omega (arith, row-area (s .pre .1 .held .sides))
 
 slice-relend-prefix-columns : tie.Need-slice-relend-prefix-columns
-slice-relend-prefix-columns c = let s = c .before .before .before .before .before .before in omega (arith, room (s .pre))
+slice-relend-prefix-columns c = let s = c .before .before .before .before .before .before .before .before in omega (arith, room (s .pre .1))
 
 -- the first half has its length
-first : (c : tie.After-slice-known2) → let a = c .before .before .before .before .before .before .args in length (take (pairs (a .width) (a .f) * a .height) (now (a .scratch))) ≡ pairs (a .width) (a .f) * a .height
-first c = let s = c .before .before .before .before .before .before in length-take-le (pairs (s .args .width) (s .args .f) * s .args .height) (now (s .args .scratch)) (omega (arith, room (s .pre)))
+first : (c : tie.After-slice-known2) → let a = c .before .before .before .before .before .before .before .before .args in length (take (pairs (a .width) (a .f) * a .height) (now (a .scratch))) ≡ pairs (a .width) (a .f) * a .height
+first c = let s = c .before .before .before .before .before .before .before .before in length-take-le (pairs (s .args .width) (s .args .f) * s .args .height) (now (s .args .scratch)) (omega (arith, room (s .pre .1)))
 
 slice-aggregate-columns : tie.Need-slice-aggregate-columns
 slice-aggregate-columns c = sym (first (c .before))
 
 columns-requires : tie.Need-columns-requires
-columns-requires c κs = let s = c .before .before .before .before .before .before .before in columning (s .pre) (s .pre .bands .first) (s .pre .bands .second) (first (c .before))
+columns-requires c κs = let s = c .before .before .before .before .before .before .before .before .before in (s .pre .0, columning (s .pre .1) (s .pre .1 .bands .first) (s .pre .1 .bands .second) (first (c .before)))
 
 -- after each of them the scratch is as long as it was
-after-columns : (c : tie.After-columns) → let a = c .before .before .before .before .before .before .before .before .args in length (c .columns .last .1 .1 .1 .1 .1 .1 .1 .0 ++ drop (pairs (a .width) (a .f) * a .height) (now (a .scratch))) ≡ length (now (a .scratch))
-after-columns c = let a = c .before .before .before .before .before .before .before .before .args in length-front (now (a .scratch)) (c .columns .last .1 .1 .1 .1 .1 .1 .1 .0) (pairs (a .width) (a .f) * a .height) (c .columns .kept .1 .1 .1 .1 .1 .1 .1 .0)
+after-columns : (c : tie.After-columns) → let a = c .before .before .before .before .before .before .before .before .before .before .args in length (c .columns .last .1 .1 .1 .1 .1 .1 .1 .0 ++ drop (pairs (a .width) (a .f) * a .height) (now (a .scratch))) ≡ length (now (a .scratch))
+after-columns c = let a = c .before .before .before .before .before .before .before .before .before .before .args in length-front (now (a .scratch)) (c .columns .last .1 .1 .1 .1 .1 .1 .1 .0) (pairs (a .width) (a .f) * a .height) (c .columns .kept .1 .1 .1 .1 .1 .1 .1 .0)
 
 mul-columns : tie.Need-mul-columns
-mul-columns c = omega (arith, room (c .before .before .before .before .before .before .before .before .before .before .pre))
+mul-columns c = omega (arith, room (c .before .before .before .before .before .before .before .before .before .before .before .before .pre .1))
 
 sub-columns : tie.Need-sub-columns
 sub-columns c = search needs
@@ -57,36 +57,36 @@ part-columns-start : tie.Need-part-columns-start
 part-columns-start c = search needs
 
 part-columns-end : tie.Need-part-columns-end
-part-columns-end c = omega (arith, room (c .before .before .before .before .before .before .before .before .before .before .pre), after-columns (c .before .before))
+part-columns-end c = omega (arith, room (c .before .before .before .before .before .before .before .before .before .before .before .before .pre .1), after-columns (c .before .before))
 
 columns-requires-2 : tie.Need-columns-requires-2
 columns-requires-2 c κs =
     let l = c .before .before .before in
-    let s = c .before .before .before .before .before .before .before .before .before .before .before in
+    let s = c .before .before .before .before .before .before .before .before .before .before .before .before .before in
     let a = s .args in
     let half = pairs (a .width) (a .f) * a .height in
-    let part = mid-len half (half + half) (l .columns .last .1 .1 .1 .1 .1 .1 .1 .0 ++ drop half (now (a .scratch))) (omega (arith, room (s .pre), after-columns l)) in
-    columning (s .pre) (s .pre .bands .third) (s .pre .bands .fourth) (omega (arith, part))
+    let part = mid-len half (half + half) (l .columns .last .1 .1 .1 .1 .1 .1 .1 .0 ++ drop half (now (a .scratch))) (omega (arith, room (s .pre .1), after-columns l)) in
+    (s .pre .0, columning (s .pre .1) (s .pre .1 .bands .third) (s .pre .1 .bands .fourth) (omega (arith, part)))
 
 after-columns2 : (c : tie.After-columns2)
     → let l = c .before .before .before .before in
-    let a = c .before .before .before .before .before .before .before .before .before .before .before .before .args in
+    let a = c .before .before .before .before .before .before .before .before .before .before .before .before .before .before .args in
     let half = pairs (a .width) (a .f) * a .height in
     length (putMid half (half + half - half) (l .columns .last .1 .1 .1 .1 .1 .1 .1 .0 ++ drop half (now (a .scratch))) (c .columns2 .last .1 .1 .1 .1 .1 .1 .1 .0)) ≡ length (now (a .scratch))
 after-columns2 c =
     let l = c .before .before .before .before in
-    let a = c .before .before .before .before .before .before .before .before .before .before .before .before .args in
+    let a = c .before .before .before .before .before .before .before .before .before .before .before .before .before .before .args in
     let half = pairs (a .width) (a .f) * a .height in
     same-len-mid half (half + half - half) (l .columns .last .1 .1 .1 .1 .1 .1 .1 .0 ++ drop half (now (a .scratch))) (c .columns2 .last .1 .1 .1 .1 .1 .1 .1 .0) (c .columns2 .kept .1 .1 .1 .1 .1 .1 .1 .0) ∙ after-columns l
 
 add-cross : tie.Need-add-cross
-add-cross c = omega (arith, few-pairs (c .before .before .before .before .before .before .before .before .before .before .before .before .before .before .before .pre .held .sides))
+add-cross c = omega (arith, few-pairs (c .before .before .before .before .before .before .before .before .before .before .before .before .before .before .before .before .before .pre .1 .held .sides))
 
 cross-requires : tie.Need-cross-requires
-cross-requires c κs = crossable (c .before .before .before .before .before .before .before .before .before .before .before .before .before .before .before .pre) (after-columns2 (c .before .before .before))
+cross-requires c κs = crossable (c .before .before .before .before .before .before .before .before .before .before .before .before .before .before .before .before .before .pre .1) (after-columns2 (c .before .before .before))
 
 mul-rows : tie.Need-mul-rows
-mul-rows c = omega (arith, row-area (c .before .before .before .before .before .before .before .before .before .before .before .before .before .before .before .before .before .before .pre .held .sides))
+mul-rows c = omega (arith, row-area (c .before .before .before .before .before .before .before .before .before .before .before .before .before .before .before .before .before .before .before .before .pre .1 .held .sides))
 
 sub-rows : tie.Need-sub-rows
 sub-rows c = search needs
@@ -95,16 +95,16 @@ part-rows-start : tie.Need-part-rows-start
 part-rows-start c = search needs
 
 part-rows-end : tie.Need-part-rows-end
-part-rows-end c = omega (arith, room (c .before .before .before .before .before .before .before .before .before .before .before .before .before .before .before .before .before .before .before .pre), c .before .before .before .cross .kept .0, after-columns2 (c .before .before .before .before .before .before .before))
+part-rows-end c = omega (arith, room (c .before .before .before .before .before .before .before .before .before .before .before .before .before .before .before .before .before .before .before .before .before .pre .1), c .before .before .before .cross .kept .0, after-columns2 (c .before .before .before .before .before .before .before))
 
 rows-requires : tie.Need-rows-requires
 rows-requires c κs =
     let k = c .before .before .before .before .before in
-    let s = c .before .before .before .before .before .before .before .before .before .before .before .before .before .before .before .before .before .before .before .before .before in
+    let s = c .before .before .before .before .before .before .before .before .before .before .before .before .before .before .before .before .before .before .before .before .before .before .before in
     let a = s .args in
     let half = pairs (a .width) (a .f) * a .height in
-    let part = mid-len (half + half) (half + half + (half + half)) (k .cross .last .0) (omega (arith, room (s .pre), k .cross .kept .0, after-columns2 (c .before .before .before .before .before .before .before .before .before))) in
-    rowing (s .pre) (omega (arith, part)) refl
+    let part = mid-len (half + half) (half + half + (half + half)) (k .cross .last .0) (omega (arith, room (s .pre .1), k .cross .kept .0, after-columns2 (c .before .before .before .before .before .before .before .before .before))) in
+    (s .pre .0, rowing (s .pre .1) (omega (arith, part)) refl)
 
 same-length : tie.Need-same-length
 same-length c = c .before .before .rows .kept .1 .1 .1 .1 .1 .1 .0
@@ -118,10 +118,10 @@ returns c =
     let k = c .before .before .before .before .before .before .before .before in
     let j = c .before .before .before .before .before .before .before .before .before .before .before .before in
     let i = c .before .before .before .before .before .before .before .before .before .before .before .before .before .before .before .before in
-    let s = c .before .before .before .before .before .before .before .before .before .before .before .before .before .before .before .before .before .before .before .before .before .before .before .before in
+    let s = c .before .before .before .before .before .before .before .before .before .before .before .before .before .before .before .before .before .before .before .before .before .before .before .before .before .before in
     let a = s .args in
     let half = pairs (a .width) (a .f) * a .height in
-    joined (s .pre) binary64 (now (a .low)) (now (a .high)) (now (a .ll)) (now (a .lh)) (now (a .hl)) (now (a .hh)) (now (a .scratch))
+    joined (s .pre .1) binary64 (now (a .low)) (now (a .high)) (now (a .ll)) (now (a .lh)) (now (a .hl)) (now (a .hh)) (now (a .scratch))
     (i .columns .last .1 .1 .1 .1 .1 .1 .1 .0 ++ drop half (now (a .scratch))) _ (j .columns2 .last .1 .1 .1 .1 .1 .1 .1 .0) (k .cross .last .0)
     refl (ap (λ (l : List Float). l ++ drop half (now (a .scratch))) (i .columns .ensures)) (j .columns2 .ensures) refl (after-columns2 j) (k .cross .ensures) (k .cross .kept .0)
     (half + half + (half + half) - (half + half)) (omega arith) (r .rows .ensures)

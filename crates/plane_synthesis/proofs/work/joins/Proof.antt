@@ -17,26 +17,26 @@ use Rattle.plane_synthesis.proofs.work.joins.Statement.{statement}
 use Rattle.plane_synthesis.proofs.work.joins.Tie as tie
 
 abbrev Inv-loop : tie.InvT-loop
-Inv-loop low high f lo hi step n count out₀ l h m c₀ out c = (c ≤ count) × (length out ≡ length out₀) × (out ≡ stored (stepJoin binary64 f low high step n lo hi) c ++ drop (c * n) out₀)
+Inv-loop low high f lo hi step n count out₀ m c₀ out c = (c ≤ count) × (length out ≡ length out₀) × (out ≡ stored (stepJoin binary64 f low high step n lo hi) c ++ drop (c * n) out₀)
 
 abbrev μ-loop : tie.MeasureT-loop
-μ-loop low high f lo hi step n count out₀ l h m c₀ out c = count - c
+μ-loop low high f lo hi step n count out₀ m c₀ out c = count - c
 
 -- where the turn's line goes
 lengths : (c : tie.In-loop Inv-loop μ-loop) → let a = c .before .before .before .before .before .before .before .args in c .before .loop .c * a .n + a .n ≤ length (now (a .out))
-lengths c = let s = c .before .before .before .before .before .before .before in omega (arith, line-end (s .args .n) (c .loop-test .taken), s .pre .room)
+lengths c = let s = c .before .before .before .before .before .before .before in omega (arith, line-end (s .args .n) (c .loop-test .taken), s .pre .1 .room)
 
 lows : (c : tie.In-loop Inv-loop μ-loop) → let a = c .before .before .before .before .before .before .before .args in c .before .loop .c * a .step + pairs (a .n) (a .f) ≤ length (now (a .lo))
-lows c = c .before .before .before .before .before .before .before .pre .lows (c .before .loop .c) (c .loop-test .taken)
+lows c = c .before .before .before .before .before .before .before .pre .1 .lows (c .before .loop .c) (c .loop-test .taken)
 
 highs : (c : tie.In-loop Inv-loop μ-loop) → let a = c .before .before .before .before .before .before .before .args in c .before .loop .c * a .step + pairs (a .n) (a .f) ≤ length (now (a .hi))
-highs c = c .before .before .before .before .before .before .before .pre .highs (c .before .loop .c) (c .loop-test .taken)
+highs c = c .before .before .before .before .before .before .before .pre .1 .highs (c .before .loop .c) (c .loop-test .taken)
 
 add-m : tie.Need-add-m Inv-loop μ-loop
-add-m c = let s = c .before .before .before .before .before .pre in omega (arith, s .few, s .taps .most)
+add-m c = let s = c .before .before .before .before .before .pre .1 in omega (arith, s .few, s .taps .most)
 
 sub-m : tie.Need-sub-m Inv-loop μ-loop
-sub-m c = let s = c .before .before .before .before .before .pre in omega (arith, s .some)
+sub-m c = let s = c .before .before .before .before .before .pre .1 in omega (arith, s .some)
 
 loop-holds : tie.Need-loop-holds Inv-loop μ-loop
 loop-holds c = let a = c .before .before .before .before .before .args in (search needs, refl, filling-none (stepJoin binary64 (a .f) (now (a .low)) (now (a .high)) (a .step) (a .n) (now (a .lo)) (now (a .hi))) (a .n) (now (a .out)))
@@ -53,45 +53,45 @@ mul-start c = omega (arith, lengths c)
 add-end : tie.Need-add-end Inv-loop μ-loop
 add-end c = omega (arith, lengths c)
 
-mul-join-anew : tie.Need-mul-join-anew Inv-loop μ-loop
-mul-join-anew c = omega (arith, lows (c .before .before))
+mul-join-cleared : tie.Need-mul-join-cleared Inv-loop μ-loop
+mul-join-cleared c = omega (arith, lows c)
 
-sub-join-anew : tie.Need-sub-join-anew Inv-loop μ-loop
-sub-join-anew c = search needs
+sub-join-cleared : tie.Need-sub-join-cleared Inv-loop μ-loop
+sub-join-cleared c = search needs
 
-part-join-anew-start : tie.Need-part-join-anew-start Inv-loop μ-loop
-part-join-anew-start c = search needs
+part-join-cleared-start : tie.Need-part-join-cleared-start Inv-loop μ-loop
+part-join-cleared-start c = search needs
 
-part-join-anew-end : tie.Need-part-join-anew-end Inv-loop μ-loop
-part-join-anew-end c = omega (arith, lows (c .before .before))
+part-join-cleared-end : tie.Need-part-join-cleared-end Inv-loop μ-loop
+part-join-cleared-end c = omega (arith, lows c)
 
-mul-join-anew-2 : tie.Need-mul-join-anew-2 Inv-loop μ-loop
-mul-join-anew-2 c = omega (arith, highs (c .before .before .before))
+mul-join-cleared-2 : tie.Need-mul-join-cleared-2 Inv-loop μ-loop
+mul-join-cleared-2 c = omega (arith, highs (c .before))
 
-sub-join-anew-2 : tie.Need-sub-join-anew-2 Inv-loop μ-loop
-sub-join-anew-2 c = search needs
+sub-join-cleared-2 : tie.Need-sub-join-cleared-2 Inv-loop μ-loop
+sub-join-cleared-2 c = search needs
 
-part-join-anew-start-2 : tie.Need-part-join-anew-start-2 Inv-loop μ-loop
-part-join-anew-start-2 c = search needs
+part-join-cleared-start-2 : tie.Need-part-join-cleared-start-2 Inv-loop μ-loop
+part-join-cleared-start-2 c = search needs
 
-part-join-anew-end-2 : tie.Need-part-join-anew-end-2 Inv-loop μ-loop
-part-join-anew-end-2 c = omega (arith, highs (c .before .before .before))
+part-join-cleared-end-2 : tie.Need-part-join-cleared-end-2 Inv-loop μ-loop
+part-join-cleared-end-2 c = omega (arith, highs (c .before))
 
-mul-join-anew-3 : tie.Need-mul-join-anew-3 Inv-loop μ-loop
-mul-join-anew-3 c = omega (arith, lengths (c .before .before .before .before))
+mul-join-cleared-3 : tie.Need-mul-join-cleared-3 Inv-loop μ-loop
+mul-join-cleared-3 c = omega (arith, lengths (c .before .before))
 
-sub-join-anew-3 : tie.Need-sub-join-anew-3 Inv-loop μ-loop
-sub-join-anew-3 c = search needs
+sub-join-cleared-3 : tie.Need-sub-join-cleared-3 Inv-loop μ-loop
+sub-join-cleared-3 c = search needs
 
-part-join-anew-start-3 : tie.Need-part-join-anew-start-3 Inv-loop μ-loop
-part-join-anew-start-3 c = search needs
+part-join-cleared-start-3 : tie.Need-part-join-cleared-start-3 Inv-loop μ-loop
+part-join-cleared-start-3 c = search needs
 
-part-join-anew-end-3 : tie.Need-part-join-anew-end-3 Inv-loop μ-loop
-part-join-anew-end-3 c = omega (arith, lengths (c .before .before .before .before), c .before .before .before .before .before .loop .inv .1)
+part-join-cleared-end-3 : tie.Need-part-join-cleared-end-3 Inv-loop μ-loop
+part-join-cleared-end-3 c = omega (arith, lengths (c .before .before), c .before .before .before .loop .inv .1)
 
-join-anew-requires : tie.Need-join-anew-requires Inv-loop μ-loop
-join-anew-requires c κs =
-    let w = c .before .before .before .before .before in
+join-cleared-requires : tie.Need-join-cleared-requires Inv-loop μ-loop
+join-cleared-requires c κs =
+    let w = c .before .before .before in
     let l = w .before in
     let s = l .before .before .before .before .before .before in
     let a = s .args in
@@ -100,18 +100,22 @@ join-anew-requires c κs =
     let lo = mid-len (k * a .step) (k * a .step + M) (now (a .lo)) (lows w) in
     let hi = mid-len (k * a .step) (k * a .step + M) (now (a .hi)) (highs w) in
     let out = mid-len (k * a .n) (k * a .n + a .n) (l .loop .out) (omega (arith, lengths w, l .loop .inv .1)) in
-    side-joins (a .n) (a .f) (s .pre .taps) (s .pre .some) (s .pre .few) (s .pre .even) (omega (arith, lo)) (omega (arith, hi)) (omega (arith, out))
+    record {
+      all = side-joins (a .n) (a .f) (s .pre .1 .taps) (s .pre .1 .some) (s .pre .1 .few) (s .pre .1 .even) (omega (arith, lo)) (omega (arith, hi)) (omega (arith, out));
+      lows = s .pre .0 .lows;
+      highs = s .pre .0 .highs;
+    }
 
 add-c : tie.Need-add-c Inv-loop μ-loop
-add-c c = omega (arith, c .before .before .before .before .before .before .before .before .loop-test .taken)
+add-c c = omega (arith, c .before .before .before .before .before .before .loop-test .taken)
 
 loop-less : tie.Need-loop-less Inv-loop μ-loop
-loop-less c = omega (arith, c .before .before .before .before .before .before .before .before .loop-test .taken)
+loop-less c = omega (arith, c .before .before .before .before .before .before .loop-test .taken)
 
 loop-again : tie.Need-loop-again Inv-loop μ-loop
 loop-again c =
     let j = c .before .before in
-    let w = c .before .before .before .before .before .before .before .before in
+    let w = c .before .before .before .before .before .before in
     let l = w .before in
     let s = l .before .before .before .before .before .before in
     let a = s .args in
@@ -122,9 +126,9 @@ loop-again c =
     let part = mid-len (k * n) (k * n + n) (l .loop .out) (omega (arith, lengths w, l .loop .inv .1)) in
     let g = stepJoin binary64 (a .f) (now (a .low)) (now (a .high)) (a .step) n (now (a .lo)) (now (a .hi)) in (
       omega (arith, w .loop-test .taken),
-      same-len-mid (k * n) (k * n + n - k * n) (l .loop .out) (j .join-anew .last .1 .1 .1 .1 .1 .0) (j .join-anew .kept .1 .1 .1 .1 .1 .0) ∙ l .loop .inv .1,
+      same-len-mid (k * n) (k * n + n - k * n) (l .loop .out) (j .join-cleared .last .1 .1 .1 .1 .1 .0) (j .join-cleared .kept .1 .1 .1 .1 .1 .0) ∙ l .loop .inv .1,
       filling-next g n k (k * n + n) (now (a .out)) (λ i q. length-join binary64 (a .f) (now (a .low)) (now (a .high)) n _ _) (omega (arith, lengths w, one-more k n)) refl (l .loop .inv .2)
-          (joined-parts binary64 (a .f) (now (a .low)) (now (a .high)) n (j .join-anew .ensures)
+          (joined-parts binary64 (a .f) (now (a .low)) (now (a .high)) n (j .join-cleared .ensures)
           (ap (λ (i : ℕ). take i (drop from (now (a .lo)))) (let z : from + M - from ≡ M = omega arith in z))
           (ap (λ (i : ℕ). take i (drop from (now (a .hi)))) (let z : from + M - from ≡ M = omega arith in z))
           (omega (arith, part))),
@@ -139,7 +143,7 @@ returns c =
     let s = l .before .before .before .before .before .before in
     let a = s .args in
     let g = stepJoin binary64 (a .f) (now (a .low)) (now (a .high)) (a .step) (a .n) (now (a .lo)) (now (a .hi)) in
-    filling-all g (a .n) (l .loop .c) (a .count) (now (a .out)) (l .loop .inv .2) (omega (arith, l .loop .inv .0, c .loop-test .left)) (s .pre .room)
+    filling-all g (a .n) (l .loop .c) (a .count) (now (a .out)) (l .loop .inv .2) (omega (arith, l .loop .inv .0, c .loop-test .left)) (s .pre .1 .room)
 
 pub joins-spec : {M : Type 1} → statement M
 joins-spec =
@@ -154,19 +158,19 @@ joins-spec =
     add-to
     mul-start
     add-end
-    mul-join-anew
-    sub-join-anew
-    part-join-anew-start
-    part-join-anew-end
-    mul-join-anew-2
-    sub-join-anew-2
-    part-join-anew-start-2
-    part-join-anew-end-2
-    mul-join-anew-3
-    sub-join-anew-3
-    part-join-anew-start-3
-    part-join-anew-end-3
-    join-anew-requires
+    mul-join-cleared
+    sub-join-cleared
+    part-join-cleared-start
+    part-join-cleared-end
+    mul-join-cleared-2
+    sub-join-cleared-2
+    part-join-cleared-start-2
+    part-join-cleared-end-2
+    mul-join-cleared-3
+    sub-join-cleared-3
+    part-join-cleared-start-3
+    part-join-cleared-end-3
+    join-cleared-requires
     add-c
     loop-less
     loop-again

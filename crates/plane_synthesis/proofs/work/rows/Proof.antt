@@ -11,19 +11,19 @@ use Rattle.plane_synthesis.proofs.work.rows.Statement.{statement}
 use Rattle.plane_synthesis.proofs.work.rows.Tie as tie
 
 add-m : tie.Need-add-m
-add-m c = let s = c .before .before .pre .even .sides in omega (arith, s .across, s .taps .most)
+add-m c = let s = c .before .before .before .before .pre .1 .even .sides in omega (arith, s .across, s .taps .most)
 
 sub-m : tie.Need-sub-m
-sub-m c = let s = c .before .before .pre .even .sides in omega (arith, s .wide)
+sub-m c = let s = c .before .before .before .before .pre .1 .even .sides in omega (arith, s .wide)
 
 mul-joins : tie.Need-mul-joins
 mul-joins c = search needs
 
 sub-joins : tie.Need-sub-joins
-sub-joins c = let s = c .before .before in rows-few (s .args .width) (s .args .height) (s .args .f) _ _ (s .pre)
+sub-joins c = let s = c .before .before .before .before in rows-few (s .args .width) (s .args .height) (s .args .f) _ _ (s .pre .1)
 
 part-joins-start : tie.Need-part-joins-start
-part-joins-start c = let s = c .before .before in rows-few (s .args .width) (s .args .height) (s .args .f) _ _ (s .pre)
+part-joins-start c = let s = c .before .before .before .before in rows-few (s .args .width) (s .args .height) (s .args .f) _ _ (s .pre .1)
 
 part-joins-end : tie.Need-part-joins-end
 part-joins-end c = search needs
@@ -32,16 +32,16 @@ add-joins : tie.Need-add-joins
 add-joins c = search needs
 
 joins-requires : tie.Need-joins-requires
-joins-requires c κs = let s = c .before .before .before .before in rows-join (s .pre) (ap length (rest-all (pairs (s .args .width) (s .args .f)) (now (s .args .bands))) ∙ length-drop (pairs (s .args .width) (s .args .f)) (now (s .args .bands)))
+joins-requires c κs = let s = c .before .before .before .before .before .before in (s .pre .0, rows-join (s .pre .1) (ap length (rest-all (pairs (s .args .width) (s .args .f)) (now (s .args .bands))) ∙ length-drop (pairs (s .args .width) (s .args .f)) (now (s .args .bands))))
 
 same-length : tie.Need-same-length
 same-length c = search needs
 
 returns : tie.Need-returns
 returns c =
-    let s = c .before .before .before .before .before .before .before in
+    let s = c .before .before .before .before .before .before .before .before .before in
     let a = s .args in
-    c .before .before .joins .ensures ∙ rows-held binary64 (a .width) (a .height) (a .f) _ _ (now (a .low)) (now (a .high)) (now (a .bands)) _ refl (rest-all (pairs (a .width) (a .f)) (now (a .bands))) (s .pre)
+    c .before .before .joins .ensures ∙ rows-held binary64 (a .width) (a .height) (a .f) _ _ (now (a .low)) (now (a .high)) (now (a .bands)) _ refl (rest-all (pairs (a .width) (a .f)) (now (a .bands))) (s .pre .1)
 
 pub rows-spec : {M : Type 1} → statement M
 rows-spec =

@@ -21,12 +21,12 @@ sub-n : tie.Need-sub-n
 sub-n c = search needs
 
 -- as long as the details, and as long as the joined line
-trimmed : (c : tie.After-slice-known) → let a = c .before .before .before .args in length (take (length (now (a .detail))) (now (a .line))) ≡ length (now (a .detail))
-trimmed c = let s = c .before .before .before in length-take-le (length (now (s .args .detail))) (now (s .args .line)) (s .pre .trimmed)
+trimmed : (c : tie.After-slice-known) → let a = c .before .before .before .before .before .args in length (take (length (now (a .detail))) (now (a .line))) ≡ length (now (a .detail))
+trimmed c = let s = c .before .before .before .before .before in length-take-le (length (now (s .args .detail))) (now (s .args .line)) (s .pre .1 .trimmed)
 
-room : (c : tie.After-slice-known) → let a = c .before .before .before .args in
+room : (c : tie.After-slice-known) → let a = c .before .before .before .before .before .args in
     let n = 2 * length (now (a .detail)) + 2 - a .f in length (take n (now (a .out))) ≡ n
-room c = let s = c .before .before .before in length-take-le (2 * length (now (s .args .detail)) + 2 - s .args .f) (now (s .args .out)) (s .pre .room)
+room c = let s = c .before .before .before .before .before in length-take-le (2 * length (now (s .args .detail)) + 2 - s .args .f) (now (s .args .out)) (s .pre .1 .room)
 
 slice-aggregate-join-cleared : tie.Need-slice-aggregate-join-cleared
 slice-aggregate-join-cleared c = sym (trimmed (c .before))
@@ -40,14 +40,19 @@ slice-aggregate-join-cleared-2 c = sym (room (c .before .before))
 join-cleared-requires : tie.Need-join-cleared-requires
 join-cleared-requires c κs =
     let k = c .before .before in
-    let d = k .before .before .before .pre in
+    let s = k .before .before .before .before .before .pre in
+    let d = s .1 in
     record {
-      two = d .taps .two;
-      most = d .taps .most;
-      even = d .taps .even;
-      few = omega (arith, trimmed k, d .few);
-      both = sym (trimmed k);
-      ruled = omega (arith, trimmed k, room k, d .grown);
+      all = record {
+        two = d .taps .two;
+        most = d .taps .most;
+        even = d .taps .even;
+        few = omega (arith, trimmed k, d .few);
+        both = sym (trimmed k);
+        ruled = omega (arith, trimmed k, room k, d .grown);
+      };
+      lows = s .0 .lows;
+      highs = s .0 .highs;
     }
 
 same-length : tie.Need-same-length
@@ -56,10 +61,10 @@ same-length c = search needs
 returns : tie.Need-returns
 returns c =
     let j = c .before .before in
-    let s = j .before .before .before .before .before .before in
+    let s = j .before .before .before .before .before .before .before .before in
     let a = s .args in
     laid-front binary64 (a .f) (now (a .low)) (now (a .high)) (now (a .line)) (now (a .detail)) (now (a .out)) (length (now (a .detail))) (2 * length (now (a .detail)) + 2 - a .f)
-    refl refl (s .pre .room) (j .join-cleared .ensures)
+    refl refl (s .pre .1 .room) (j .join-cleared .ensures)
 
 pub join-front-spec : {M : Type 1} → statement M
 join-front-spec =

@@ -49,13 +49,13 @@ module _ (F : ℕ) (low high deepest detail x y : List Float) (j : ℕ) where
   is-first n e = sym (cond-false (eqb j 0) deepest _ (ne-eqb j 0 n) ∙ cond-false (eqb (j % 2) 0) y x (ne-eqb (j % 2) 0 e))
 
 join-front-requires : tie.Need-join-front-requires
-join-front-requires c κs = let t = c .before in let d = t .before .before .before .before .before .pre in joining _ d (d .deep (t .if1 .taken))
+join-front-requires c κs = let t = c .before in let d = t .before .before .before .before .before .before .before .pre in (d .0, joining _ (d .1) (d .1 .deep (t .if1 .taken)))
 
 join-front-requires-2 : tie.Need-join-front-requires-2
-join-front-requires-2 c κs = let d = c .before .before .before .before .before .before .before .before .pre in joining _ d (omega (arith, d .space, d .grown))
+join-front-requires-2 c κs = let d = c .before .before .before .before .before .before .before .before .before .before .pre in (d .0, joining _ (d .1) (omega (arith, d .1 .space, d .1 .grown)))
 
 join-front-requires-3 : tie.Need-join-front-requires-3
-join-front-requires-3 c κs = let d = c .before .before .before .before .before .before .before .before .pre in joining-second _ d (omega (arith, d .room, d .grown))
+join-front-requires-3 c κs = let d = c .before .before .before .before .before .before .before .before .before .before .pre in (d .0, joining-second _ (d .1) (omega (arith, d .1 .room, d .1 .grown)))
 
 same-length : tie.Need-same-length
 same-length c = search needs
@@ -64,7 +64,7 @@ returns : tie.Need-returns
 returns c =
     let f = c .before .before in
     let t = f .before .before in
-    let a = t .before .before .before .before .before .args in
+    let a = t .before .before .before .before .before .before .before .args in
     let z : a .j % 2 ≡ 0 = omega (arith, t .if1 .taken) in
     into-first (a .f) (now (a .low)) (now (a .high)) (now (a .deepest)) (now (a .detail)) (now (a .first)) (now (a .second)) (a .j) (now (a .deepest)) z
     (is-deepest (a .f) (now (a .low)) (now (a .high)) (now (a .deepest)) (now (a .detail)) (now (a .first)) (now (a .second)) (a .j) (t .if1 .taken)) (f .join-front .ensures)
@@ -79,7 +79,7 @@ returns-2 : tie.Need-returns-2
 returns-2 c =
     let f = c .before .before in
     let t = f .before .before .before in
-    let a = t .before .before .before .before .before .before .args in
+    let a = t .before .before .before .before .before .before .before .before .args in
     into-first (a .f) (now (a .low)) (now (a .high)) (now (a .deepest)) (now (a .detail)) (now (a .first)) (now (a .second)) (a .j) (now (a .second)) (omega (arith, t .if2 .taken))
     (is-second (a .f) (now (a .low)) (now (a .high)) (now (a .deepest)) (now (a .detail)) (now (a .first)) (now (a .second)) (a .j) (t .before .if1 .left) (omega (arith, t .if2 .taken))) (f .join-front2 .ensures)
 
@@ -93,7 +93,7 @@ returns-3 : tie.Need-returns-3
 returns-3 c =
     let f = c .before .before in
     let t = f .before .before .before in
-    let a = t .before .before .before .before .before .before .args in
+    let a = t .before .before .before .before .before .before .before .before .args in
     into-second (a .f) (now (a .low)) (now (a .high)) (now (a .deepest)) (now (a .detail)) (now (a .first)) (now (a .second)) (a .j) (now (a .first)) (λ e. absurd (omega (arith, e, t .if2 .left)))
     (is-first (a .f) (now (a .low)) (now (a .high)) (now (a .deepest)) (now (a .detail)) (now (a .first)) (now (a .second)) (a .j) (t .before .if1 .left) (λ e. absurd (omega (arith, e, t .if2 .left)))) (f .join-front3 .ensures)
 

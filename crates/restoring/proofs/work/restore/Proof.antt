@@ -30,18 +30,18 @@ found : (n f levels p a b level start count : ℕ) → Restoring n f levels p a 
 found n f levels p a b level start count w h es ec =
     omega (arith, inside n f levels level (w .packs .sound .taps .two) (omega (arith, h)), whole-length (w .packs), es, ec)
 
-deepest-in : (c : tie.After-part-of Inv-loop μ-loop) → let a = c .before .before .before .before .args in c .part-of .result .start + c .part-of .result .count ≤ length (now (a .packed))
+deepest-in : (c : tie.After-part-of Inv-loop μ-loop) → let a = c .before .before .before .before .before .before .args in c .part-of .result .start + c .part-of .result .count ≤ length (now (a .packed))
 deepest-in c =
-    let s = c .before .before .before .before in
+    let s = c .before .before .before .before .before .before in
     let a = s .args in
-    found (a .n) (a .f) (a .levels) (length (now (a .packed))) _ _ 0 (c .part-of .result .start) (c .part-of .result .count) (s .pre) (omega arith) (c .part-of .ensures .0) (c .part-of .ensures .1)
+    found (a .n) (a .f) (a .levels) (length (now (a .packed))) _ _ 0 (c .part-of .result .start) (c .part-of .result .count) (s .pre .1) (omega arith) (c .part-of .ensures .0) (c .part-of .ensures .1)
 
 detail-in : (c : tie.After-part-of2 Inv-loop μ-loop)
-    → let a = c .before .before .before .before .before .before .before .before .args in c .part-of2 .result .start + c .part-of2 .result .count ≤ length (now (a .packed))
+    → let a = c .before .before .before .before .before .before .before .before .before .before .args in c .part-of2 .result .start + c .part-of2 .result .count ≤ length (now (a .packed))
 detail-in c =
-    let s = c .before .before .before .before .before .before .before .before in
+    let s = c .before .before .before .before .before .before .before .before .before .before in
     let a = s .args in
-    found (a .n) (a .f) (a .levels) (length (now (a .packed))) _ _ (a .levels - c .before .before .loop .j) (c .part-of2 .result .start) (c .part-of2 .result .count) (s .pre) (omega arith) (c .part-of2 .ensures .0) (c .part-of2 .ensures .1)
+    found (a .n) (a .f) (a .levels) (length (now (a .packed))) _ _ (a .levels - c .before .before .loop .j) (c .part-of2 .result .start) (c .part-of2 .result .count) (s .pre .1) (omega arith) (c .part-of2 .ensures .0) (c .part-of2 .ensures .1)
 
 -- both parts of a turn, over plain variables: which they are, and how long
 record Parts (n f levels j : ℕ) (packed : List Float) (start count from counted : ℕ) : Type 0 where
@@ -69,24 +69,24 @@ at-most e h = rw e h
 these : (c : tie.After-part-of2 Inv-loop μ-loop)
     → let l = c .before .before in
     let d = l .before .before in
-    let a = d .before .before .before .before .args in
+    let a = d .before .before .before .before .before .before .args in
     Parts (a .n) (a .f) (a .levels) (l .loop .j) (now (a .packed)) (d .part-of .result .start) (d .part-of .result .count) (c .part-of2 .result .start) (c .part-of2 .result .count)
 these c =
     let l = c .before .before in
     let d = l .before .before in
-    let s = d .before .before .before .before in
+    let s = d .before .before .before .before .before .before in
     let a = s .args in
-    parts (a .n) (a .f) (a .levels) _ _ (l .loop .j) (now (a .packed)) _ _ _ _ (s .pre) (c .before .loop-test .taken) (d .part-of .ensures) (c .part-of2 .ensures)
+    parts (a .n) (a .f) (a .levels) _ _ (l .loop .j) (now (a .packed)) _ _ _ _ (s .pre .1) (c .before .loop-test .taken) (d .part-of .ensures) (c .part-of2 .ensures)
 
 part-of-requires : tie.Need-part-of-requires Inv-loop μ-loop
-part-of-requires c κs = let s = c .before .before .before in named 0 (s .pre .packs) (omega arith)
+part-of-requires c κs = let s = c .before .before .before .before .before in named 0 (s .pre .1 .packs) (omega arith)
 
 add-end : tie.Need-add-end Inv-loop μ-loop
 add-end c = omega (arith, deepest-in (c .before))
 
 loop-holds : tie.Need-loop-holds Inv-loop μ-loop
 loop-holds c =
-    let a = c .before .before .before .before .before .args in (
+    let a = c .before .before .before .before .before .before .before .args in (
       search needs,
       refl,
       refl,
@@ -98,7 +98,7 @@ sub-part-of : tie.Need-sub-part-of Inv-loop μ-loop
 sub-part-of c = search needs
 
 part-of-requires-2 : tie.Need-part-of-requires-2 Inv-loop μ-loop
-part-of-requires-2 c κs = let s = c .before .before .before .before .before .before .before in named (s .args .levels - c .before .loop .j) (s .pre .packs) (omega arith)
+part-of-requires-2 c κs = let s = c .before .before .before .before .before .before .before .before .before in named (s .args .levels - c .before .loop .j) (s .pre .1 .packs) (omega arith)
 
 add-to : tie.Need-add-to Inv-loop μ-loop
 add-to c = omega (arith, detail-in (c .before))
@@ -131,11 +131,11 @@ join-level-requires : tie.Need-join-level-requires Inv-loop μ-loop
 join-level-requires c κs =
     let q = c .before .before .before .before .before in
     let l = q .before .before in
-    let s = l .before .before .before .before .before .before in
+    let s = l .before .before .before .before .before .before .before .before in
     let a = s .args in
-    let t = turning (a .n) (a .f) (a .levels) (length (now (a .packed))) (length (now (a .first))) (length (now (a .second))) (l .loop .j) _ _ (s .pre) (q .before .loop-test .taken)
+    let t = turning (a .n) (a .f) (a .levels) (length (now (a .packed))) (length (now (a .first))) (length (now (a .second))) (l .loop .j) _ _ (s .pre .1) (q .before .loop-test .taken)
     (these q .deepest-length) (these q .detail-length) in
-    record { taps = t .taps; few = t .few; deep = t .deep; grown = t .grown; room = omega (arith, t .room, l .loop .inv .1); space = omega (arith, t .space, l .loop .inv .2) }
+    (s .pre .0, record { taps = t .taps; few = t .few; deep = t .deep; grown = t .grown; room = omega (arith, t .room, l .loop .inv .1); space = omega (arith, t .space, l .loop .inv .2) })
 
 add-j : tie.Need-add-j Inv-loop μ-loop
 add-j c = search needs
@@ -148,12 +148,12 @@ loop-again c =
     let w = c .before .before .before .before in
     let q = w .before .before .before .before .before .before in
     let l = q .before .before in
-    let s = l .before .before .before .before .before .before in
+    let s = l .before .before .before .before .before .before .before .before in
     let a = s .args in
     let i = l .loop .inv in
     let j = l .loop .j in
     let e = these q in
-    let long = long-enough binary64 (now (a .low)) (now (a .high)) (now (a .packed)) (a .n) (a .f) (a .levels) _ _ _ j (s .pre) refl (i .0) in
+    let long = long-enough binary64 (now (a .low)) (now (a .high)) (now (a .packed)) (a .n) (a .f) (a .levels) _ _ _ j (s .pre .1) refl (i .0) in
     let enough = at-most (e .detail-length) long in (
       omega (arith, q .before .loop-test .taken),
       w .join-level .kept .1 .1 .1 .1 .1 .1 .0 ∙ i .1,
@@ -171,7 +171,7 @@ same-length-2 c = search needs
 returns : tie.Need-returns Inv-loop μ-loop
 returns c =
     let l = c .before in
-    let s = l .before .before .before .before .before .before in
+    let s = l .before .before .before .before .before .before .before .before in
     let a = s .args in
     let i = l .loop .inv in
     let e : l .loop .j ≡ a .levels = omega (arith, i .0, c .loop-test .left) in (

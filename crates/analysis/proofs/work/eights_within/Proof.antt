@@ -1,0 +1,171 @@
+-- `analysis::work::eights_within` meets its contract: each turn puts eight places of either band, which are sums over a line that lies behind both.
+use borrow.Author.Needs.{needs}
+use Prim.Native.Nat.{ℕ, _+_, _-_, _*_, _≤_}
+use native.Mathlib.Omega.{arith}
+use mathlib.Core.List.{List}
+use mathlib.Core.Path.{_≡_, _∙_, ap}
+use denote.Ref.{now}
+use lib.ListN.{length, take, drop, length-drop}
+use lib.Seq.{length-take-le}
+use lib.Ieee.{Float, binary64}
+use Rattle.summing.specs.Pairs.{pairAt}
+use Rattle.analysis.specs.Pairs.{sums-at}
+use Rattle.analysis.specs.Works.{bandOf}
+use Rattle.analysis.specs.Halves.{Halves, lineAt, halves-start, halves-run, line-same}
+use Rattle.analysis.proofs.work.eights_within.Statement.{statement}
+use Rattle.analysis.proofs.work.eights_within.Tie as tie
+
+abbrev Inv-loop : tie.InvT-loop
+Inv-loop low high f s₀ from to m end i₀ s i = (i ≤ m) × Halves (bandOf binary64 low f (lineAt f from m s₀)) (bandOf binary64 high f (lineAt f from m s₀)) to m i s₀ s
+
+abbrev μ-loop : tie.MeasureT-loop
+μ-loop low high f s₀ from to m end i₀ s i = m - i
+
+-- what a turn knows: its places are within the list, and the list is as long as it was
+room : (c : tie.In-loop Inv-loop μ-loop) → let a = c .before .before .before .before .before .args in (a .to + a .m + c .before .loop .i + 8 ≤ length (now (a .s))) × (length (c .before .loop .s) ≡ length (now (a .s)))
+room c = let s = c .before .before .before .before .before in (omega (arith, c .loop-test .taken, s .pre .before, s .pre .within), c .before .loop .inv .1 .long)
+
+mul-end : tie.Need-mul-end Inv-loop μ-loop
+mul-end c = search needs
+
+-- src/work.rt:208:23
+add-end : tie.Need-add-end Inv-loop μ-loop
+add-end c = search needs
+
+-- src/work.rt:208:23
+sub-end : tie.Need-sub-end Inv-loop μ-loop
+sub-end c = search needs
+
+-- src/work.rt:208:15
+add-end-2 : tie.Need-add-end-2 Inv-loop μ-loop
+add-end-2 c = search needs
+
+-- src/work.rt:210:5
+loop-holds : tie.Need-loop-holds Inv-loop μ-loop
+loop-holds c = (search needs, halves-start _ _ _ _ _)
+
+-- src/work.rt:210:11
+add-loop : tie.Need-add-loop Inv-loop μ-loop
+add-loop c = search needs
+
+-- src/work.rt:211:41
+mul-eight : tie.Need-mul-eight Inv-loop μ-loop
+mul-eight c = omega (arith, c .before .loop .inv .1 .long, c .before .before .before .before .before .pre .within, c .before .before .before .before .before .pre .two)
+
+-- src/work.rt:211:41
+sub-eight : tie.Need-sub-eight Inv-loop μ-loop
+sub-eight c = search needs
+
+-- src/work.rt:211:41
+part-eight-start : tie.Need-part-eight-start Inv-loop μ-loop
+part-eight-start c = search needs
+
+-- src/work.rt:211:41
+part-eight-end : tie.Need-part-eight-end Inv-loop μ-loop
+part-eight-end c = let l = c .before .before in omega (arith, l .loop .inv .1 .long, l .before .before .before .before .pre .within, l .before .before .before .before .pre .two)
+
+-- src/work.rt:211:56
+mul-eight-2 : tie.Need-mul-eight-2 Inv-loop μ-loop
+mul-eight-2 c = search needs
+
+-- src/work.rt:211:13
+eight-requires : tie.Need-eight-requires Inv-loop μ-loop
+eight-requires c κs =
+    let w = c .before .before in
+    let l = w .before in
+    let s = l .before .before .before .before in
+    let a = s .args in
+    let n = length-take-le (2 * a .m + a .f - 2) (drop (a .from) (l .loop .s)) (omega (arith, length-drop (a .from) (l .loop .s), l .loop .inv .1 .long, s .pre .within)) in
+    let e : a .from + (2 * a .m + a .f - 2) - a .from ≡ 2 * a .m + a .f - 2 = omega arith in
+    record { lows = s .pre .lows; highs = s .pre .highs; within = omega (arith, n, ap (λ (k : ℕ). length (take k (drop (a .from) (l .loop .s)))) e, w .loop-test .taken, s .pre .two) }
+
+-- src/work.rt:212:30
+add-put-approx : tie.Need-add-put-approx Inv-loop μ-loop
+add-put-approx c = search needs
+
+-- src/work.rt:212:9
+put-approx-requires : tie.Need-put-approx-requires Inv-loop μ-loop
+put-approx-requires c κs = omega (arith, room (c .before .before .before .before))
+
+-- src/work.rt:213:30
+add-put-detail : tie.Need-add-put-detail Inv-loop μ-loop
+add-put-detail c = search needs
+
+-- src/work.rt:213:30
+add-put-detail-2 : tie.Need-add-put-detail-2 Inv-loop μ-loop
+add-put-detail-2 c = search needs
+
+-- src/work.rt:213:9
+put-detail-requires : tie.Need-put-detail-requires Inv-loop μ-loop
+put-detail-requires c κs = let p = c .before .before .before in omega (arith, p .put-approx .kept .1 .0, room (p .before .before .before .before .before))
+
+-- src/work.rt:214:9
+add-i : tie.Need-add-i Inv-loop μ-loop
+add-i c = search needs
+
+-- src/work.rt:210:5
+loop-less : tie.Need-loop-less Inv-loop μ-loop
+loop-less c = search needs
+
+-- src/work.rt:210:5
+loop-again : tie.Need-loop-again Inv-loop μ-loop
+loop-again c =
+    let d = c .before .before in
+    let p = d .before .before .before .before in
+    let g = p .before .before in
+    let w = g .before .before .before in
+    let l = w .before in
+    let s = l .before .before .before .before in
+    let a = s .args in
+    let x = now (a .s) in
+    let i = l .loop .i in
+    let low = now (a .low) in
+    let high = now (a .high) in
+    let line = lineAt (a .f) (a .from) (a .m) x in
+    let pairs = g .eight .result in
+    let there = take (a .from + (2 * a .m + a .f - 2) - a .from) (drop (a .from) (l .loop .s)) in
+    let same : there ≡ line = line-same _ _ (a .f) (a .from) (a .to) (a .m) i (a .from + (2 * a .m + a .f - 2) - a .from) x (l .loop .s) (s .pre .before) (omega arith) (l .loop .inv .1) in (
+      omega (arith, w .loop-test .taken),
+      halves-run (bandOf binary64 low (a .f) line) (bandOf binary64 high (a .f) line) (λ q. pairAt pairs q .approx) (λ q. pairAt pairs q .detail) (a .to) (a .m) i 8 x (l .loop .s)
+          (omega (arith, w .loop-test .taken)) (omega (arith, s .pre .before, s .pre .within)) (l .loop .inv .1)
+          (λ q k. sums-at binary64 low high there (a .f) i 8 pairs (g .eight .ensures) q k .0 ∙ ap (λ (y : List Float). bandOf binary64 low (a .f) y (i + q)) same)
+          (λ q k. sums-at binary64 low high there (a .f) i 8 pairs (g .eight .ensures) q k .1 ∙ ap (λ (y : List Float). bandOf binary64 high (a .f) y (i + q)) same)
+          (p .put-approx .ensures) (d .put-detail .ensures),
+    )
+
+-- src/work.rt:196:1
+same-length : tie.Need-same-length Inv-loop μ-loop
+same-length c = c .before .loop .inv .1 .long
+
+-- src/work.rt:196:1
+returns : tie.Need-returns Inv-loop μ-loop
+returns c = c .before .loop .inv
+
+pub eights-within-spec : {M : Type 1} → statement M
+eights-within-spec =
+    tie.close
+    (tie.spec
+    Inv-loop
+    μ-loop
+    mul-end
+    add-end
+    sub-end
+    add-end-2
+    loop-holds
+    add-loop
+    mul-eight
+    sub-eight
+    part-eight-start
+    part-eight-end
+    mul-eight-2
+    eight-requires
+    add-put-approx
+    put-approx-requires
+    add-put-detail
+    add-put-detail-2
+    put-detail-requires
+    add-i
+    loop-less
+    loop-again
+    same-length
+    returns)

@@ -1,2 +1,0 @@
--- One pair onto the places that it reaches. Definitions: Pairs.
-pub mod Pairs
