@@ -1,4 +1,4 @@
-"""The figures that measure.py wrote: (operation, taps, n) to what a call costs the Rust and this library."""
+"""The figures that measure.py wrote: a case to what a call costs the Rust and this library."""
 import cases
 
 
@@ -6,13 +6,13 @@ def read(path):
     costs = {}
     with open(path) as file:
         for line in file:
-            op, f, n, rust, ours = line.split()
-            costs[op, int(f), int(n)] = float(rust), float(ours)
+            op, border, f, n, rust, ours = line.split()
+            costs[op, border, int(f), int(n)] = float(rust), float(ours)
     return costs
 
 
 def growths(costs, case):
     """How many times what n samples cost 4n cost, the Rust and here; nothing where 4n was not measured."""
-    op, f, n = case
-    more = costs.get((op, f, cases.fourfold(op, n)))
+    op, border, f, n = case
+    more = costs.get((op, border, f, cases.fourfold(op, n)))
     return [after / before for after, before in zip(more, costs[case])] if more else []

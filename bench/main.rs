@@ -1,15 +1,15 @@
 //! Both sides in one program, on the same numbers. measure.py runs it.
 //!
-//!   bench check OP F N              one run of each; what they give is compared, bit for bit
-//!   bench count SIDE OP F N RUNS    that many runs and nothing printed
-//!   bench time SIDE OP F N          nanoseconds a run, the best of several timings
+//!   bench check OP BORDER F N               a call of each, by bank two; what they give is compared, bit for bit
+//!   bench count SIDE OP BORDER F N TIMES    that many calls and nothing printed
+//!   bench time SIDE OP BORDER F N           nanoseconds a call, the best of several timings
 mod our_side;
 mod rust_side;
 mod work;
 
 use rust_side::Returned;
 use std::time::Instant;
-use work::{OPS, Op, Work, samples};
+use work::{BORDERS, Case, OPS, Work, repeated};
 
 fn stop(why: &str) -> ! {
     eprintln!("bench: {why}");
@@ -20,48 +20,58 @@ fn number(text: &str) -> usize {
     text.parse().unwrap_or_else(|_| stop("a number was expected"))
 }
 
-fn operation(name: &str) -> Op {
-    OPS.iter().find(|(n, _)| *n == name).map_or_else(|| stop("no such operation"), |(_, op)| *op)
+fn case(op: &str, border: &str, f: &str, n: &str) -> Case {
+    let op = OPS.iter().find(|(name, _)| *name == op).map_or_else(|| stop("no such operation"), |(_, op)| *op);
+    let border = BORDERS.iter().position(|name| *name == border).unwrap_or_else(|| stop("no such border"));
+    Case { op, border, f: number(f), n: number(n) }
 }
 
 /// Makes a case, hands its call to what runs it, and gives what the call's caller is given.
-fn with_call(side: &str, op: Op, f: usize, n: usize, run: impl FnOnce(&mut dyn FnMut())) -> Vec<f64> {
-    let mut w = Work::new(op, f, n);
+fn with_calls(side: &str, case: Case, run: impl FnOnce(&mut dyn FnMut(usize))) -> Vec<f64> {
+    let mut w = Work::new(case);
     let mut returned = Returned::default();
     match side {
-        "rust" => run(&mut *rust_side::call(op, &mut w, &mut returned)),
-        "ours" => run(&mut *our_side::call(op, &mut w)),
+        "rust" => run(&mut *repeated(rust_side::call(case, &mut w, &mut returned))),
+        "ours" => run(&mut *our_side::calls(case, &mut w)),
         _ => stop("a side is rust or ours"),
     }
     returned.put(&mut w);
-    w.given(op)
+    w.given(case.op)
 }
 
-fn check(op: Op, f: usize, n: usize) {
-    let [x, y] = ["rust", "ours"].map(|side| with_call(side, op, f, n, |call| call()));
+fn check(case: Case) {
+    // by bank it is the second call that is counted
+    let times = if case.by_bank() { 2 } else { 1 };
+    let [x, y] = ["rust", "ours"].map(|side| with_calls(side, case, |calls| calls(times)));
     let differ = x.len().abs_diff(y.len()) + x.iter().zip(&y).filter(|(x, y)| x.to_bits() != y.to_bits()).count();
     println!("{} {differ}", x.len());
 }
 
-fn count(side: &str, op: Op, f: usize, n: usize, runs: usize) {
-    with_call(side, op, f, n, |call| (0..runs).for_each(|_| call()));
+fn count(side: &str, case: Case, times: usize) {
+    with_calls(side, case, |calls| calls(times));
 }
 
 const TIMINGS: usize = 9;
 const SAMPLES_A_TIMING: usize = 1 << 17;
 
-/// Nanoseconds a call, over enough calls that the clock's own step does not show.
-fn timing(call: &mut dyn FnMut(), calls: usize) -> f64 {
-    let start = Instant::now();
-    (0..calls).for_each(|_| call());
-    start.elapsed().as_secs_f64() * 1e9 / calls as f64
+/// Nanoseconds, the best of several timings.
+fn best(mut timed: impl FnMut()) -> f64 {
+    let timing = |_| {
+        let start = Instant::now();
+        timed();
+        start.elapsed().as_secs_f64() * 1e9
+    };
+    (0..=TIMINGS).map(timing).fold(f64::INFINITY, f64::min)
 }
 
-fn time(side: &str, op: Op, f: usize, n: usize) {
-    let calls = (SAMPLES_A_TIMING / samples(op, n)).max(1);
-    with_call(side, op, f, n, |call| {
-        let best = (0..=TIMINGS).map(|_| timing(call, calls)).fold(f64::INFINITY, f64::min);
-        println!("{best:.1}");
+fn time(side: &str, case: Case) {
+    // so often that the clock's own step does not show
+    let runs = (SAMPLES_A_TIMING / case.samples()).max(1);
+    with_calls(side, case, |calls| {
+        let mut taken = |times| best(|| (0..runs).for_each(|_| calls(times))) / runs as f64;
+        // by bank two calls and one differ by a call, and both make the bank
+        let call = if case.by_bank() { taken(2) - taken(1) } else { taken(1) };
+        println!("{call:.1}");
     });
 }
 
@@ -69,9 +79,9 @@ fn main() {
     let words: Vec<String> = std::env::args().skip(1).collect();
     let words: Vec<&str> = words.iter().map(String::as_str).collect();
     match words[..] {
-        ["check", op, f, n] => check(operation(op), number(f), number(n)),
-        ["count", side, op, f, n, runs] => count(side, operation(op), number(f), number(n), number(runs)),
-        ["time", side, op, f, n] => time(side, operation(op), number(f), number(n)),
-        _ => stop("check OP F N, count SIDE OP F N RUNS, or time SIDE OP F N"),
+        ["check", op, border, f, n] => check(case(op, border, f, n)),
+        ["count", side, op, border, f, n, times] => count(side, case(op, border, f, n), number(times)),
+        ["time", side, op, border, f, n] => time(side, case(op, border, f, n)),
+        _ => stop("check OP BORDER F N, count SIDE OP BORDER F N TIMES, or time SIDE OP BORDER F N"),
     }
 }

@@ -11,8 +11,11 @@ import sys
 import cases
 
 LOOP = 2000004
-# a call is what one run more costs; of lines not the second, in which the Rust's allocator still settles
-FEW = {False: 2, True: 1}
+
+
+def before(op):
+    """How many calls stand before the one that is counted. Of lines it is not the second, in which the Rust's allocator still settles; by bank there are two."""
+    return 1 if cases.plane(op) or cases.by_bank(op) else 2
 
 
 def stop(why):
@@ -39,8 +42,8 @@ class Bench:
             return int(file.read())
 
     def call(self, side, case):
-        """The instructions of one call."""
-        few = FEW[cases.plane(case[0])]
+        """The instructions of one call: what one more costs."""
+        few = before(case[0])
         return self.executed('bench', 'count', side, *case, few + 1) - self.executed('bench', 'count', side, *case, few)
 
 
@@ -51,7 +54,7 @@ def selftest(bench):
         if counted != LOOP:
             stop('the plugin does not count right')
     for side in 'rust', 'ours':
-        first, second = (bench.executed('bench', 'count', side, 'levels', 8, 4096, 3) for _ in range(2))
+        first, second = (bench.executed('bench', 'count', side, 'levels', cases.WRAP, 8, 4096, 3) for _ in range(2))
         print('one run counted twice, %s: %d and %d' % (side, first, second))
         if first != second:
             stop('a run counted twice has two counts')

@@ -1,7 +1,5 @@
-//! This library: its exports as include/isferghul.h declares them, taps told in each call.
-use crate::work::{LEVELS, Op, Work};
-
-const WRAP: usize = 1;
+//! This library: its exports as include/isferghul.h declares them, taps told in each call; and its entries by bank, which crates/banked calls.
+use crate::work::{Calls, Case, LEVELS, Op, Work, repeated};
 
 unsafe extern "C" {
     fn isferghul_analyse(
@@ -34,16 +32,30 @@ unsafe extern "C" {
         hl: *const f64, hls: usize, hh: *const f64, hhs: usize, width: usize, height: usize, plane: *mut f64, planes: usize,
         scratch: *mut f64, scratches: usize, carried: *mut usize,
     ) -> u64;
+    fn banked_analyse(
+        twice: bool, border: usize, low: *const f64, lows: usize, high: *const f64, highs: usize, line: *const f64, samples: usize,
+        approx: *mut f64, approxes: usize, detail: *mut f64, details: usize, scratch: *mut f64, scratches: usize,
+    ) -> u64;
+    fn banked_synthesise(
+        twice: bool, border: usize, low: *const f64, lows: usize, high: *const f64, highs: usize, approx: *const f64, approxes: usize,
+        detail: *const f64, details: usize, out: *mut f64, outs: usize,
+    ) -> u64;
 }
 
 fn done(answer: u64) {
     assert!(answer == 0, "this library answers {answer}");
 }
 
+/// A bank is made for one call or for two.
+fn twice(times: usize) -> bool {
+    assert!((1..=2).contains(&times), "by bank once or twice");
+    times == 2
+}
+
 /// The call of a case. Each pointer goes with its list's length, and no list that is written overlaps another: that is what the header asks.
-pub fn call(op: Op, w: &mut Work) -> Box<dyn FnMut()> {
+pub fn calls(case: Case, w: &mut Work) -> Calls<'static> {
     let mut carried = [0usize; 2];
-    let (n, f, low, high) = (w.n, w.low.len(), w.low.as_ptr(), w.high.as_ptr());
+    let (n, f, border, low, high) = (case.n, case.f, case.border, w.low.as_ptr(), w.high.as_ptr());
     let (line, samples) = (w.line.as_ptr(), w.line.len());
     let (packed, packeds) = (w.packed.as_mut_ptr(), w.packed.len());
     let (out, outs) = (w.out.as_mut_ptr(), w.out.len());
@@ -53,15 +65,20 @@ pub fn call(op: Op, w: &mut Work) -> Box<dyn FnMut()> {
     let mut bands = w.bands.iter_mut().map(Vec::as_mut_ptr);
     let [a, b, c, d] = std::array::from_fn(|_| bands.next().unwrap_or(std::ptr::null_mut()));
     macro_rules! calls {
-        ($export:ident($($argument:expr),*)) => { Box::new(move || done(unsafe { $export($($argument),*, carried.as_mut_ptr()) })) };
+        ($export:ident($($argument:expr),*)) => { repeated(Box::new(move || done(unsafe { $export($($argument),*, carried.as_mut_ptr()) }))) };
     }
-    match op {
-        Op::Analysis => calls!(isferghul_analyse(WRAP, low, f, high, f, line, samples, a, m, b, m, scratch, scratches)),
+    macro_rules! calls_by_bank {
+        ($export:ident($($argument:expr),*)) => { Box::new(move |times| done(unsafe { $export(twice(times), $($argument),*) })) };
+    }
+    match case.op {
+        Op::Analysis => calls!(isferghul_analyse(border, low, f, high, f, line, samples, a, m, b, m, scratch, scratches)),
+        Op::AnalysisByBank => calls_by_bank!(banked_analyse(border, low, f, high, f, line, samples, a, m, b, m, scratch, scratches)),
         Op::Synthesis => calls!(isferghul_synthesise(low, f, high, f, a, m, b, m, out, outs)),
-        Op::Convolution => calls!(isferghul_convolve(WRAP, line, samples, out, outs, scratch, scratches, low, f, 0)),
-        Op::Levels => calls!(isferghul_analyse_levels(WRAP, low, f, high, f, line, samples, LEVELS, packed, packeds, scratch, scratches)),
+        Op::SynthesisByBank => calls_by_bank!(banked_synthesise(border, low, f, high, f, a, m, b, m, out, outs)),
+        Op::Convolution => calls!(isferghul_convolve(border, line, samples, out, outs, scratch, scratches, low, f, 0)),
+        Op::Levels => calls!(isferghul_analyse_levels(border, low, f, high, f, line, samples, LEVELS, packed, packeds, scratch, scratches)),
         Op::Restoring => calls!(isferghul_restore_levels(low, f, high, f, packed, packeds, n, LEVELS, out, outs, second, seconds)),
-        Op::PlaneAnalysis => calls!(isferghul_analyse_plane(WRAP, low, f, high, f, line, samples, n, n, a, m, b, m, c, m, d, m, scratch, scratches)),
+        Op::PlaneAnalysis => calls!(isferghul_analyse_plane(border, low, f, high, f, line, samples, n, n, a, m, b, m, c, m, d, m, scratch, scratches)),
         Op::PlaneSynthesis => calls!(isferghul_synthesise_plane(low, f, high, f, a, m, b, m, c, m, d, m, n, n, out, outs, scratch, scratches)),
     }
 }

@@ -1,13 +1,13 @@
 """Draws the ratios of counts.   plot.py COUNTS SVG
 
-A line for each operation and number of taps; on it a dot for each size, left of 1 where this library executes fewer instructions than the Rust."""
+A line for each operation, border and number of taps; on it a dot for each size, left of 1 where this library executes fewer instructions than the Rust."""
 import sys
 
 import cases
 import figures
 
-WIDTH, LEFT, TOP, HIGH, GAP = 880, 200, 124, 20, 10
-FROM, TO, ACROSS = 0.2, 1.2, 480
+WIDTH, LEFT, TOP, HIGH, GAP = 916, 256, 124, 18, 12
+FROM, TO, ACROSS = 0.1, 1.2, 484
 RATIOS = LEFT + ACROSS + 60
 GROWTHS = RATIOS + 90
 INK, PALE, OURS, WORSE = '#1b1b1b', '#666666', '#1f5fa8', '#c23b22'
@@ -22,7 +22,8 @@ def stroke(x, y, to_x, to_y, colour, width=1):
 
 
 def across(ratio):
-    return LEFT + ACROSS * (ratio - FROM) / (TO - FROM)
+    """Where a ratio stands; one past the scale stands at its end."""
+    return LEFT + ACROSS * (min(max(ratio, FROM), TO) - FROM) / (TO - FROM)
 
 
 def dot(x, y, filled, colour):
@@ -33,13 +34,24 @@ def colour(ratio):
     return WORSE if ratio > 1 else OURS
 
 
-def line_of(costs, op, f, y):
-    """The dots of one number of taps, by size; the largest is filled, drawn last and told in words."""
-    sizes = cases.sizes(op)
-    ratios = [costs[op, f, n][1] / costs[op, f, n][0] for n in sizes]
-    growth = figures.growths(costs, (op, f, sizes[-2]))[1]
+def name(row):
+    """What stands for a row in its group."""
+    _, border, f = row
+    return f if border == cases.WRAP else border
+
+
+def title(group):
+    op, border, f = group[0]
+    return cases.TITLES[op] if border == cases.WRAP else '%s by %d taps' % (cases.TITLES[op], f)
+
+
+def line_of(costs, row, y):
+    """The dots of one row, by size; the largest is filled, drawn last and told in words."""
+    sizes = cases.sizes(row[0])
+    ratios = [costs[(*row, n)][1] / costs[(*row, n)][0] for n in sizes]
+    growth = figures.growths(costs, (*row, sizes[-2]))[1]
     return [
-        text(LEFT - 16, y + 4, f, PALE, anchor='end'),
+        text(LEFT - 16, y + 4, name(row), PALE, anchor='end'),
         stroke(across(min(ratios)), y, across(max(ratios)), y, '#b9c9dd', 2),
         *[dot(across(ratio), y, n == sizes[-1], colour(ratio)) for n, ratio in zip(sizes, ratios)],
         text(RATIOS, y + 4, '%.2f' % ratios[-1], colour(ratios[-1]), anchor='end'),
@@ -48,12 +60,12 @@ def line_of(costs, op, f, y):
 
 
 def lines(costs):
-    """All rows, a gap before each operation, and where they end."""
+    """All rows, a gap before each group, and where they end."""
     drawn, y = [], TOP
-    for op, taps in cases.TAPS.items():
-        drawn += [text(LEFT - 56, y + 4, cases.TITLES[op], anchor='end')]
-        for f in taps:
-            drawn += line_of(costs, op, f, y)
+    for group in cases.GROUPS:
+        drawn += [text(LEFT - 96, y + 4, title(group), anchor='end')]
+        for row in group:
+            drawn += line_of(costs, row, y)
             y += HIGH
         y += GAP
     return drawn, y - GAP
@@ -61,7 +73,7 @@ def lines(costs):
 
 def scale(top, bottom):
     drawn = ['<rect x="%.1f" y="%d" width="%.1f" height="%d" fill="#fbeeeb"/>' % (across(1), top, across(TO) - across(1), bottom - top)]
-    for tenth in range(2, 13):
+    for tenth in range(1, 13):
         x, one = across(tenth / 10), tenth == 10
         drawn += [stroke(x, top, x, bottom, INK if one else '#e4e4e4', 1.5 if one else 1), text(x, bottom + 18, '%.1f' % (tenth / 10), PALE, 12, 'middle')]
     return drawn
@@ -71,11 +83,12 @@ def heads():
     return [
         text(24, 30, 'Executed x86-64 instructions: ours for each one of the Rust', size=17, weight='bold'),
         text(24, 54, 'Left of the line at 1.0 we take fewer than the Rust, right of it (red) more.', PALE),
-        dot(560, 50, True, OURS),
-        text(570, 54, '16,384 samples, or 4,096 x 4,096', PALE),
-        dot(560, 70, False, OURS),
-        text(570, 74, 'fewer, from 64, or from 512 x 512', PALE),
-        text(LEFT - 16, TOP - 22, 'taps', PALE, 12, 'end'),
+        text(24, 74, 'The border is Wrap where none is named.', PALE),
+        dot(576, 50, True, OURS),
+        text(586, 54, '16,384 samples, or 4,096 x 4,096', PALE),
+        dot(576, 70, False, OURS),
+        text(586, 74, 'fewer, from 64, or from 512 x 512', PALE),
+        text(LEFT - 16, TOP - 22, 'taps, or border', PALE, 12, 'end'),
         text(RATIOS, TOP - 22, 'filled dot', PALE, 12, 'end'),
         text(GROWTHS, TOP - 22, 'n to 4n', PALE, 12, 'end'),
     ]

@@ -1,8 +1,8 @@
 //! The Rust: its public calls with the bank in hand, lent what they take and allocating what they allocate.
-use crate::work::{LEVELS, Op, Work, half};
+use crate::work::{Call, Case, LEVELS, Op, Work, half};
 use oracle::{BorderMode, FilterBank2D, MultiDwt, MultiLevelDwtRef, oracle as rust};
 
-const BORDER: BorderMode = BorderMode::Wrap;
+const BORDERS: [BorderMode; 5] = [BorderMode::Clamp, BorderMode::Wrap, BorderMode::Reflect, BorderMode::Zeros, BorderMode::Reflect101];
 const DONE: &str = "the Rust is done";
 
 /// What calls over levels return; it is dropped when the next call is made.
@@ -38,21 +38,22 @@ fn parts(packed: &[f64], mut n: usize, f: usize) -> MultiLevelDwtRef<'_, f64> {
 }
 
 /// The call of a case.
-pub fn call<'a>(op: Op, w: &'a mut Work, returned: &'a mut Returned) -> Box<dyn FnMut() + 'a> {
-    let bank = rust::bank(BORDER, &w.low, &w.high);
-    let (n, low, line, packed) = (w.n, &w.low[..], &w.line[..], &w.packed[..]);
+pub fn call<'a>(case: Case, w: &'a mut Work, returned: &'a mut Returned) -> Call<'a> {
+    let (n, border) = (case.n, BORDERS[case.border]);
+    let bank = rust::bank(border, &w.low, &w.high);
+    let (low, line, packed) = (&w.low[..], &w.line[..], &w.packed[..]);
     let (bands, out, scratch) = (&mut w.bands[..], &mut w.out[..], &mut w.scratch[..]);
-    match op {
-        Op::Analysis => {
+    match case.op {
+        Op::Analysis | Op::AnalysisByBank => {
             let [approx, detail] = bands else { unreachable!() };
             Box::new(move || bank.execute_forward_with_scratch(line, approx, detail, scratch).expect(DONE))
         }
-        Op::Synthesis => {
+        Op::Synthesis | Op::SynthesisByBank => {
             let [approx, detail] = bands else { unreachable!() };
             Box::new(move || bank.execute_inverse(approx, detail, out).expect(DONE))
         }
         Op::Convolution => {
-            let convolve = oracle::made::convolution(BORDER);
+            let convolve = oracle::made::convolution(border);
             Box::new(move || convolve(line, out, scratch, low, 0).expect(DONE))
         }
         Op::Levels => Box::new(move || {

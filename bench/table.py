@@ -4,8 +4,8 @@ import sys
 import cases
 import figures
 
-ROW = '%-16s %4s %11s %9s %9s %7s %7s %7s %s'
-HEAD = '%-33s %19s %7s %15s'
+ROW = '%-17s %-10s %4s %11s %9s %9s %7s %7s %7s %s'
+HEAD = '%-45s %19s %7s %15s'
 
 
 def size(op, n):
@@ -13,15 +13,15 @@ def size(op, n):
 
 
 def row(costs, case):
-    op, f, n = case
+    op, border, f, n = case
     rust, ours = costs[case]
     each = ['%.2f' % (cost / cases.samples(op, n)) for cost in (rust, ours)]
     growth = ['%.2f' % times for times in figures.growths(costs, case)] or ['', '']
-    return ROW % (cases.TITLES[op], f, size(op, n), *each, '%.3f' % (ours / rust), *growth, 'above' if ours > rust else '')
+    return ROW % (cases.TITLES[op], border if cases.border_read(op) else '', f, size(op, n), *each, '%.3f' % (ours / rust), *growth, 'above' if ours > rust else '')
 
 
 def table(costs, unit):
-    heads = [HEAD % ('', unit + ' a sample', '', 'from n to 4n'), ROW % ('operation', 'taps', 'n', 'Rust', 'ours', 'ratio', 'Rust', 'ours', '')]
+    heads = [HEAD % ('', unit + ' a sample', '', 'from n to 4n'), ROW % ('operation', 'border', 'taps', 'n', 'Rust', 'ours', 'ratio', 'Rust', 'ours', '')]
     return [line.rstrip() for line in heads + [row(costs, case) for case in costs]]
 
 

@@ -3,7 +3,9 @@
 #[derive(Clone, Copy)]
 pub enum Op {
     Analysis,
+    AnalysisByBank,
     Synthesis,
+    SynthesisByBank,
     Convolution,
     Levels,
     Restoring,
@@ -12,9 +14,11 @@ pub enum Op {
 }
 
 /// The names that measure.py uses.
-pub const OPS: [(&str, Op); 7] = [
+pub const OPS: [(&str, Op); 9] = [
     ("analysis", Op::Analysis),
+    ("analysis-by-bank", Op::AnalysisByBank),
     ("synthesis", Op::Synthesis),
+    ("synthesis-by-bank", Op::SynthesisByBank),
     ("convolution", Op::Convolution),
     ("levels", Op::Levels),
     ("restoring", Op::Restoring),
@@ -22,12 +26,48 @@ pub const OPS: [(&str, Op); 7] = [
     ("plane-synthesis", Op::PlaneSynthesis),
 ];
 
+/// In the order of their numbers.
+pub const BORDERS: [&str; 5] = ["Clamp", "Wrap", "Reflect", "Zeros", "Reflect101"];
+
 pub const LEVELS: usize = 5;
+
+#[derive(Clone, Copy)]
+pub struct Case {
+    pub op: Op,
+    /// The border's number.
+    pub border: usize,
+    /// Taps of either list, or of the kernel.
+    pub f: usize,
+    /// Samples of the line, or of a side of the plane.
+    pub n: usize,
+}
+
+impl Case {
+    pub fn samples(self) -> usize {
+        match self.op {
+            Op::PlaneAnalysis | Op::PlaneSynthesis => self.n * self.n,
+            _ => self.n,
+        }
+    }
+
+    /// Whether this library makes a bank before the calls.
+    pub fn by_bank(self) -> bool {
+        matches!(self.op, Op::AnalysisByBank | Op::SynthesisByBank)
+    }
+}
+
+pub type Call<'a> = Box<dyn FnMut() + 'a>;
+/// A case's call, made as often as it is told.
+pub type Calls<'a> = Box<dyn FnMut(usize) + 'a>;
+
+/// Not inlined, so that nothing of a call is done once for all.
+#[inline(never)]
+pub fn repeated(mut call: Call<'_>) -> Calls<'_> {
+    Box::new(move |times| (0..times).for_each(|_| call()))
+}
 
 #[derive(Default)]
 pub struct Work {
-    /// Samples of the line, or of a side of the plane.
-    pub n: usize,
     pub low: Vec<f64>,
     pub high: Vec<f64>,
     /// The line or the plane that is split or convolved.
@@ -68,14 +108,6 @@ pub fn half(n: usize, f: usize) -> usize {
     (n + f - 1) / 2
 }
 
-/// How many samples a case has.
-pub fn samples(op: Op, n: usize) -> usize {
-    match op {
-        Op::PlaneAnalysis | Op::PlaneSynthesis => n * n,
-        _ => n,
-    }
-}
-
 fn padded(n: usize, f: usize) -> usize {
     2 * half(n, f) + f - 2
 }
@@ -91,14 +123,15 @@ fn packed(n: usize, f: usize) -> usize {
 }
 
 impl Work {
-    pub fn new(op: Op, f: usize, n: usize) -> Work {
+    pub fn new(case: Case) -> Work {
+        let Case { op, f, n, .. } = case;
         let mut numbers = Numbers(1);
-        let mut w = Work { n, low: numbers.list(f), high: numbers.list(f), ..Work::default() };
+        let mut w = Work { low: numbers.list(f), high: numbers.list(f), ..Work::default() };
         let m = half(n, f);
         let mut list = |count| numbers.list(count);
         match op {
-            Op::Analysis => (w.line, w.bands, w.scratch) = (list(n), vec![held(m); 2], held(padded(n, f))),
-            Op::Synthesis => (w.bands, w.out) = (vec![list(m), list(m)], held(n)),
+            Op::Analysis | Op::AnalysisByBank => (w.line, w.bands, w.scratch) = (list(n), vec![held(m); 2], held(padded(n, f))),
+            Op::Synthesis | Op::SynthesisByBank => (w.bands, w.out) = (vec![list(m), list(m)], held(n)),
             Op::Convolution => (w.line, w.out, w.scratch) = (list(n), held(n), held(n + f)),
             Op::Levels => (w.line, w.packed, w.scratch) = (list(n), held(packed(n, f)), held(padded(n, f) + 2 * m)),
             Op::Restoring => (w.packed, w.out, w.second) = (list(packed(n, f)), held(n), held(n)),
@@ -111,7 +144,7 @@ impl Work {
     /// All that the case's caller is given.
     pub fn given(&self, op: Op) -> Vec<f64> {
         match op {
-            Op::Analysis | Op::PlaneAnalysis => self.bands.concat(),
+            Op::Analysis | Op::AnalysisByBank | Op::PlaneAnalysis => self.bands.concat(),
             Op::Levels => self.packed.clone(),
             _ => self.out.clone(),
         }
