@@ -1,4 +1,4 @@
--- Both bands within the buffer that holds their line: what stands after some places of either, and laws of it.
+-- Laws of both bands in one buffer: none of either, some places more, and all of them; and the line that lies behind them stays.
 use Prim.Native.Nat.{ℕ, _+_, _-_, _*_, _≤_, _<_}
 use native.Mathlib.Decide.{decLt}
 use native.Mathlib.Omega.{arith}
@@ -11,17 +11,7 @@ use lib.Ieee.{Float, nan}
 use Rattle.numbers.specs.Words.{at, tab, written, placed}
 use Rattle.numbers.specs.Write.{length-tab, getD-tab, tab-getD, written-all, placed-start, placed-step, length-placed, getD-placed-before, getD-placed-behind}
 use Rattle.numbers.specs.Places.{is-placed, part-ext, getD-placed-in, placed-front}
-
--- i places of either band stand, and what lies apart from both is as it was
-pub record Halves (g h : ℕ → Float) (to m i : ℕ) (x s : List Float) : Type 0 where
-  pub long : length s ≡ length x
-  pub first : (j : ℕ) → j < i → at s (to + j) ≡ g j
-  pub second : (j : ℕ) → j < i → at s (to + m + j) ≡ h j
-  pub apart : (j : ℕ) → (j < to) ⊎ (to + (m + m) ≤ j) → at s j ≡ at x j
-
--- the padded line of m pairs that lies in a list from `from` on
-abbrev pub lineAt : ℕ → ℕ → ℕ → List Float → List Float
-lineAt f from m x = take (2 * m + f - 2) (drop from x)
+use Rattle.analysis.specs.Works.{lineAt, Halves}
 
 -- none of either
 pub halves-start : (g h : ℕ → Float) (to m : ℕ) (x : List Float) → Halves g h to m 0 x x

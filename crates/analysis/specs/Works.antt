@@ -1,8 +1,9 @@
 -- What the functions that entries share ask for, and what they leave of a part of the work. Definitions only.
 use mathlib.Core.Path.{_≡_}
+use mathlib.Core.Logic.{_⊎_}
 use mathlib.Core.List.{List, _++_}
-use Prim.Native.Nat.{ℕ, _+_, _-_, _*_, _≤_}
-use lib.ListN.{take, drop}
+use Prim.Native.Nat.{ℕ, _+_, _-_, _*_, _≤_, _<_}
+use lib.ListN.{length, take, drop}
 use lib.Ieee.{Float, Format}
 use Rattle.numbers.specs.Words.{at, tab, placed}
 use Rattle.summing.specs.Sums.{tapSum}
@@ -34,11 +35,22 @@ pub record Inside (f low high s from to m : ℕ) : Type 0 where
   pub before : to + (m + m) ≤ from
   pub within : from + (2 * m + f - 2) ≤ s
 
+-- the padded line of m pairs that lies in a list from `from` on
+abbrev pub lineAt : ℕ → ℕ → ℕ → List Float → List Float
+lineAt f from m x = take (2 * m + f - 2) (drop from x)
+
 -- that list with both bands in place, the approximations before the details, and the rest as it was
 abbrev pub bothPlaced : Format → List Float → List Float → ℕ → ℕ → ℕ → ℕ → List Float → List Float
 bothPlaced g low high F from to m x =
-    let line = take (2 * m + F - 2) (drop from x) in
+    let line = lineAt F from m x in
     placed (at (tab (bandOf g low F line) m ++ tab (bandOf g high F line) m)) to (m + m) x
+
+-- i places of either band stand, and what lies apart from both is as it was
+pub record Halves (g h : ℕ → Float) (to m i : ℕ) (x s : List Float) : Type 0 where
+  pub long : length s ≡ length x
+  pub first : (j : ℕ) → j < i → at s (to + j) ≡ g j
+  pub second : (j : ℕ) → j < i → at s (to + m + j) ≡ h j
+  pub apart : (j : ℕ) → (j < to) ⊎ (to + (m + m) ≤ j) → at s j ≡ at x j
 
 -- f taps and a line of n to be padded, and a scratch of s
 pub record Padding (f n s : ℕ) : Type 0 where

@@ -7,13 +7,11 @@ ghost use lib.Ieee.{binary64};
 ghost use Rattle.numbers.specs.Words.{tab, written};
 ghost use Rattle.bank.specs.Lengths.{Lent};
 ghost use Rattle.analysis.specs.Lines.{band, paddedInto};
-ghost use Rattle.analysis.specs.Works.{bandOf, bothPlaced, Bandable, Beside, Inside, Padding, Analysing};
-ghost use Rattle.analysis.specs.Halves.{lineAt, Halves};
+ghost use Rattle.analysis.specs.Works.{bandOf, bothPlaced, lineAt, Bandable, Beside, Inside, Halves, Padding, Analysing};
 use border::Border;
 use border::pad::pad;
 use summing::eights::eight;
-use summing::eights::put_approx;
-use summing::eights::put_detail;
+use summing::eights::put;
 use summing::place;
 
 // Eight places a turn, from the front; the answer is how many are done.
@@ -33,8 +31,8 @@ fn eights(
     let mut i = 0usize;
     while i + 7 < m {
         let pairs = eight(low, high, f, padded, 2 * i);
-        put_approx(pairs, approx, i);
-        put_detail(pairs, detail, i);
+        put(pairs, false, approx, i);
+        put(pairs, true, detail, i);
         i += 8;
     }
     i
@@ -77,8 +75,8 @@ fn eights_beside(
     let mut i = 0usize;
     while i + 7 < m {
         let pairs = eight(low, high, f, padded, 2 * i);
-        put_detail(pairs, both, i);
-        put_approx(pairs, both, m + i);
+        put(pairs, true, both, i);
+        put(pairs, false, both, m + i);
         i += 8;
     }
     i
@@ -115,8 +113,8 @@ fn eights_within(
     let mut i = 0usize;
     while i + 7 < m {
         let pairs = eight(low, high, f, &s[from..end], 2 * i);
-        put_approx(pairs, s, to + i);
-        put_detail(pairs, s, to + m + i);
+        put(pairs, false, s, to + i);
+        put(pairs, true, s, to + m + i);
         i += 8;
     }
     i
@@ -156,7 +154,7 @@ pub fn pad_line(f: usize, border: Border, line: &[f64], scratch: &mut [f64])
     pad(border, line, left, 2 * m - n, scratch);
 }
 
-// Both bands of a line, by way of the padded line at the front of the scratch.
+// Both bands of a line, by way of the padded line at the front of the scratch. The tap lists have one lifetime, so that a bank can lend its fields.
 pub fn line_bands<'a>(
     low: &'a [f64],
     high: &'a [f64],

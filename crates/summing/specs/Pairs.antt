@@ -1,4 +1,5 @@
 -- Both sums of several places, pair by pair. Definitions only.
+use mathlib.Core.Bool.{Bool, cond}
 use mathlib.Core.List.{List}
 use Prim.Native.Nat.{ℕ, _+_, _*_}
 use lib.ListN.{getD}
@@ -13,6 +14,10 @@ past = record { approx = nan; detail = nan }
 
 abbrev pub pairAt : List Pair → ℕ → Pair
 pairAt l q = getD l q past
+
+-- one of both sums: the detail's, or else the approximation's
+abbrev pub sumOf : Bool → Pair → Float
+sumOf detail p = cond detail (p .detail) (p .approx)
 
 -- a pair after one tap
 abbrev pub onto : Format → Pair → Float → Float → Float → Pair

@@ -5,12 +5,12 @@ ghost use lib.ListN.{length};
 ghost use lib.Ieee.{binary64};
 ghost use Rattle.numbers.specs.Words.{placed, tab};
 ghost use Rattle.summing.specs.Sums.{Placeable};
-ghost use Rattle.summing.specs.Pairs.{pairAt, sumsAt, tapped};
+ghost use Rattle.summing.specs.Pairs.{pairAt, sumOf, sumsAt, tapped};
 use crate::Pair;
 use crate::tap;
 
 // One tap of eight places.
-pub fn tap_eight(given: [Pair; 8], low: f64, high: f64, padded: &[f64], from: usize) -> [Pair; 8]
+fn tap_eight(given: [Pair; 8], low: f64, high: f64, padded: &[f64], from: usize) -> [Pair; 8]
     requires { ⌜ from + 15 ≤ length (now padded) ⌝ }
     ensures { λ r. ⌜ r ≡ tab (tapped binary64 given low high (now (padded .entry)) from) 8 ⌝ }
 {
@@ -43,25 +43,24 @@ pub fn eight(low: &[f64], high: &[f64], f: usize, padded: &[f64], from: usize) -
     sums
 }
 
-// Eight places of one band. Each band is put by itself: stored by turns, they would not be summed two to a register.
-pub fn put_approx(pairs: [Pair; 8], out: &mut [f64], to: usize)
-    requires { ⌜ to + 8 ≤ length (now out) ⌝ }
-    ensures { λ _. ⌜ now (out .exit) ≡ placed (λ q. pairAt pairs q .approx) to 8 (now (out .entry)) ⌝ }
+// One of both sums.
+fn sum_of(pair: Pair, detail: bool) -> f64
+    ensures { λ r. ⌜ r ≡ sumOf detail pair ⌝ }
 {
-    let mut q = 0usize;
-    while q < 8 {
-        out[to + q] = pairs[q].approx;
-        q += 1;
+    if detail {
+        return pair.detail;
     }
+    pair.approx
 }
 
-pub fn put_detail(pairs: [Pair; 8], out: &mut [f64], to: usize)
+// Eight places of one band. Each band is put by itself: stored by turns, they would not be summed two to a register.
+pub fn put(pairs: [Pair; 8], detail: bool, out: &mut [f64], to: usize)
     requires { ⌜ to + 8 ≤ length (now out) ⌝ }
-    ensures { λ _. ⌜ now (out .exit) ≡ placed (λ q. pairAt pairs q .detail) to 8 (now (out .entry)) ⌝ }
+    ensures { λ _. ⌜ now (out .exit) ≡ placed (λ q. sumOf detail (pairAt pairs q)) to 8 (now (out .entry)) ⌝ }
 {
     let mut q = 0usize;
     while q < 8 {
-        out[to + q] = pairs[q].detail;
+        out[to + q] = sum_of(pairs[q], detail);
         q += 1;
     }
 }

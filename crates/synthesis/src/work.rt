@@ -69,7 +69,7 @@ fn two_at(
     out[2 * k + 1] = odd;
 }
 
-// Thirty-two places a turn, from the front; the answer is how many twos of places are done.
+// Thirty-two places a turn, from the front; the answer is half of how many are done.
 fn thirty_twos(
     low: &[f64],
     high: &[f64],
@@ -90,7 +90,7 @@ fn thirty_twos(
     k
 }
 
-// Every place, the rest of them two by two.
+// Every place, the rest of them two by two. The tap lists have one lifetime, so that a bank can lend its fields.
 pub fn join<'a>(
     low: &'a [f64],
     high: &'a [f64],

@@ -6,8 +6,8 @@ use mathlib.Core.Path.{_≡_, refl, _∙_}
 use denote.Ref.{now}
 use lib.ListN.{length, length-set}
 use lib.Ieee.{binary64}
-use Rattle.analysis.specs.Works.{bandOf}
-use Rattle.analysis.specs.Halves.{Halves, halves-again, beside-step, beside-all}
+use Rattle.analysis.specs.Works.{bandOf, Halves}
+use Rattle.analysis.specs.Halves.{halves-again, beside-step, beside-all}
 use Rattle.analysis.proofs.work.bands_beside.Statement.{statement}
 use Rattle.analysis.proofs.work.bands_beside.Tie as tie
 

@@ -9,8 +9,8 @@ use lib.ListN.{length, take, drop, length-set, length-drop}
 use lib.Seq.{length-take-le}
 use lib.Ieee.{Float, binary64}
 use Rattle.numbers.specs.Words.{at, tab, placed}
-use Rattle.analysis.specs.Works.{bandOf}
-use Rattle.analysis.specs.Halves.{Halves, lineAt, halves-again, halves-all, halves-from, halves-step, line-same}
+use Rattle.analysis.specs.Works.{bandOf, Halves, lineAt}
+use Rattle.analysis.specs.Halves.{halves-again, halves-all, halves-from, halves-step, line-same}
 use Rattle.analysis.proofs.work.bands_within.Statement.{statement}
 use Rattle.analysis.proofs.work.bands_within.Tie as tie
 

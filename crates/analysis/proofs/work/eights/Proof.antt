@@ -1,6 +1,7 @@
 -- `analysis::work::eights` meets its contract: each turn puts eight places of both bands.
 use borrow.Author.Needs.{needs}
 use Prim.Native.Nat.{_-_, _≤_}
+use mathlib.Core.Bool.{true, false}
 use mathlib.Core.Path.{_≡_, _∙_}
 use denote.Ref.{now}
 use lib.ListN.{length}
@@ -9,7 +10,7 @@ use native.Mathlib.Omega.{arith}
 use Rattle.numbers.specs.Words.{written}
 use Rattle.numbers.specs.Write.{written-start}
 use Rattle.numbers.specs.Runs.{written-run}
-use Rattle.summing.specs.Pairs.{pairAt}
+use Rattle.summing.specs.Pairs.{pairAt, sumOf}
 use Rattle.analysis.specs.Pairs.{sums-at}
 use Rattle.analysis.specs.Works.{bandOf}
 use Rattle.analysis.proofs.work.eights.Statement.{statement}
@@ -33,11 +34,11 @@ mul-eight c = search needs
 eight-requires : tie.Need-eight-requires Inv-loop μ-loop
 eight-requires c κs = search needs
 
-put-approx-requires : tie.Need-put-approx-requires Inv-loop μ-loop
-put-approx-requires c κs = search needs
+put-requires : tie.Need-put-requires Inv-loop μ-loop
+put-requires c κs = search needs
 
-put-detail-requires : tie.Need-put-detail-requires Inv-loop μ-loop
-put-detail-requires c κs = search needs
+put-requires-2 : tie.Need-put-requires-2 Inv-loop μ-loop
+put-requires-2 c κs = search needs
 
 add-i : tie.Need-add-i Inv-loop μ-loop
 add-i c = search needs
@@ -50,12 +51,12 @@ loop-again c = let d = c .before .before in let p = d .before .before .before .b
     let s = l .before .before .before .before .before .before in let a = s .args in let low = now (a .low) in let high = now (a .high) in let line = now (a .padded) in let pairs = g .eight .result in
     let both = sums-at binary64 low high line (a .f) (l .loop .i) 8 pairs (g .eight .ensures) in (
       omega (arith, test .loop-test .taken),
-      p .put-approx .kept .1 .0 ∙ l .loop .inv .1,
-      d .put-detail .kept .1 .0 ∙ l .loop .inv .2,
-      written-run (bandOf binary64 low (a .f) line) (l .loop .i) 8 (now (a .approx)) (λ q. pairAt pairs q .approx) (omega (arith, test .loop-test .taken)) (l .loop .inv .3)
-          (λ q k. both q k .0) (p .put-approx .ensures),
-      written-run (bandOf binary64 high (a .f) line) (l .loop .i) 8 (now (a .detail)) (λ q. pairAt pairs q .detail) (omega (arith, test .loop-test .taken, s .pre .both)) (l .loop .inv .4)
-          (λ q k. both q k .1) (d .put-detail .ensures),
+      p .put .kept .1 .1 .0 ∙ l .loop .inv .1,
+      d .put2 .kept .1 .1 .0 ∙ l .loop .inv .2,
+      written-run (bandOf binary64 low (a .f) line) (l .loop .i) 8 (now (a .approx)) (λ q. sumOf false (pairAt pairs q)) (omega (arith, test .loop-test .taken)) (l .loop .inv .3)
+          (λ q k. both q k .0) (p .put .ensures),
+      written-run (bandOf binary64 high (a .f) line) (l .loop .i) 8 (now (a .detail)) (λ q. sumOf true (pairAt pairs q)) (omega (arith, test .loop-test .taken, s .pre .both)) (l .loop .inv .4)
+          (λ q k. both q k .1) (d .put2 .ensures),
     )
 
 same-length : tie.Need-same-length Inv-loop μ-loop
@@ -77,8 +78,8 @@ eights-spec =
     add-loop
     mul-eight
     eight-requires
-    put-approx-requires
-    put-detail-requires
+    put-requires
+    put-requires-2
     add-i
     loop-less
     loop-again

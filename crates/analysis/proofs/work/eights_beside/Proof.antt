@@ -1,15 +1,16 @@
 -- `analysis::work::eights_beside` meets its contract: each turn puts eight places of either half.
 use borrow.Author.Needs.{needs}
 use Prim.Native.Nat.{_-_, _≤_}
+use mathlib.Core.Bool.{true, false}
 use mathlib.Core.Path.{_≡_, _∙_}
 use denote.Ref.{now}
 use lib.ListN.{length}
 use lib.Ieee.{binary64}
 use native.Mathlib.Omega.{arith}
-use Rattle.summing.specs.Pairs.{pairAt}
+use Rattle.summing.specs.Pairs.{pairAt, sumOf}
 use Rattle.analysis.specs.Pairs.{sums-at}
-use Rattle.analysis.specs.Works.{bandOf}
-use Rattle.analysis.specs.Halves.{Halves, halves-start, beside-run}
+use Rattle.analysis.specs.Works.{bandOf, Halves}
+use Rattle.analysis.specs.Halves.{halves-start, beside-run}
 use Rattle.analysis.proofs.work.eights_beside.Statement.{statement}
 use Rattle.analysis.proofs.work.eights_beside.Tie as tie
 
@@ -19,60 +20,48 @@ Inv-loop low high f padded both₀ m i₀ both i = (i ≤ m) × (length both ≡
 abbrev μ-loop : tie.MeasureT-loop
 μ-loop low high f padded both₀ m i₀ both i = m - i
 
--- src/work.rt:165:5
 loop-holds : tie.Need-loop-holds Inv-loop μ-loop
 loop-holds c = (search needs, search needs, halves-start _ _ 0 _ _)
 
--- src/work.rt:165:11
 add-loop : tie.Need-add-loop Inv-loop μ-loop
 add-loop c = search needs
 
--- src/work.rt:166:49
 mul-eight : tie.Need-mul-eight Inv-loop μ-loop
 mul-eight c = search needs
 
--- src/work.rt:166:13
 eight-requires : tie.Need-eight-requires Inv-loop μ-loop
 eight-requires c κs = search needs
 
--- src/work.rt:167:9
-put-detail-requires : tie.Need-put-detail-requires Inv-loop μ-loop
-put-detail-requires c κs = search needs
+put-requires : tie.Need-put-requires Inv-loop μ-loop
+put-requires c κs = search needs
 
--- src/work.rt:168:33
-add-put-approx : tie.Need-add-put-approx Inv-loop μ-loop
-add-put-approx c = search needs
+add-put : tie.Need-add-put Inv-loop μ-loop
+add-put c = search needs
 
--- src/work.rt:168:9
-put-approx-requires : tie.Need-put-approx-requires Inv-loop μ-loop
-put-approx-requires c κs = search needs
+put-requires-2 : tie.Need-put-requires-2 Inv-loop μ-loop
+put-requires-2 c κs = search needs
 
--- src/work.rt:169:9
 add-i : tie.Need-add-i Inv-loop μ-loop
 add-i c = search needs
 
--- src/work.rt:165:5
 loop-less : tie.Need-loop-less Inv-loop μ-loop
 loop-less c = search needs
 
--- src/work.rt:165:5
 loop-again : tie.Need-loop-again Inv-loop μ-loop
 loop-again c = let v = c .before .before in let u = v .before .before .before .before in let g = u .before .before in let test = g .before in let l = test .before in
     let s = l .before .before .before .before .before in let a = s .args in let low = now (a .low) in let high = now (a .high) in let line = now (a .padded) in let pairs = g .eight .result in
     let both = sums-at binary64 low high line (a .f) (l .loop .i) 8 pairs (g .eight .ensures) in (
       omega (arith, test .loop-test .taken),
-      v .put-approx .kept .1 .0 ∙ u .put-detail .kept .1 .0 ∙ l .loop .inv .1,
-      beside-run (bandOf binary64 high (a .f) line) (bandOf binary64 low (a .f) line) (λ q. pairAt pairs q .detail) (λ q. pairAt pairs q .approx) (a .m) (l .loop .i) 8 (now (a .both)) (l .loop .both)
+      v .put2 .kept .1 .1 .0 ∙ u .put .kept .1 .1 .0 ∙ l .loop .inv .1,
+      beside-run (bandOf binary64 high (a .f) line) (bandOf binary64 low (a .f) line) (λ q. sumOf true (pairAt pairs q)) (λ q. sumOf false (pairAt pairs q)) (a .m) (l .loop .i) 8 (now (a .both)) (l .loop .both)
           (omega (arith, test .loop-test .taken)) (s .pre .filled) (l .loop .inv .2)
           (λ q k. both q k .1) (λ q k. both q k .0)
-          (u .put-detail .ensures) (v .put-approx .ensures),
+          (u .put .ensures) (v .put2 .ensures),
     )
 
--- src/work.rt:152:1
 same-length : tie.Need-same-length Inv-loop μ-loop
 same-length c = search needs
 
--- src/work.rt:152:1
 returns : tie.Need-returns Inv-loop μ-loop
 returns c = let l = c .before in (l .loop .inv .0, l .loop .inv .2)
 
@@ -86,9 +75,9 @@ eights-beside-spec =
     add-loop
     mul-eight
     eight-requires
-    put-detail-requires
-    add-put-approx
-    put-approx-requires
+    put-requires
+    add-put
+    put-requires-2
     add-i
     loop-less
     loop-again

@@ -3,15 +3,16 @@ use borrow.Author.Needs.{needs}
 use Prim.Native.Nat.{ℕ, _+_, _-_, _*_, _≤_}
 use native.Mathlib.Omega.{arith}
 use mathlib.Core.List.{List}
+use mathlib.Core.Bool.{true, false}
 use mathlib.Core.Path.{_≡_, _∙_, ap}
 use denote.Ref.{now}
 use lib.ListN.{length, take, drop, length-drop}
 use lib.Seq.{length-take-le}
 use lib.Ieee.{Float, binary64}
-use Rattle.summing.specs.Pairs.{pairAt}
+use Rattle.summing.specs.Pairs.{pairAt, sumOf}
 use Rattle.analysis.specs.Pairs.{sums-at}
-use Rattle.analysis.specs.Works.{bandOf}
-use Rattle.analysis.specs.Halves.{Halves, lineAt, halves-start, halves-run, line-same}
+use Rattle.analysis.specs.Works.{bandOf, Halves, lineAt}
+use Rattle.analysis.specs.Halves.{halves-start, halves-run, line-same}
 use Rattle.analysis.proofs.work.eights_within.Statement.{statement}
 use Rattle.analysis.proofs.work.eights_within.Tie as tie
 
@@ -28,47 +29,36 @@ room c = let s = c .before .before .before .before .before in (omega (arith, c .
 mul-end : tie.Need-mul-end Inv-loop μ-loop
 mul-end c = search needs
 
--- src/work.rt:208:23
 add-end : tie.Need-add-end Inv-loop μ-loop
 add-end c = search needs
 
--- src/work.rt:208:23
 sub-end : tie.Need-sub-end Inv-loop μ-loop
 sub-end c = search needs
 
--- src/work.rt:208:15
 add-end-2 : tie.Need-add-end-2 Inv-loop μ-loop
 add-end-2 c = search needs
 
--- src/work.rt:210:5
 loop-holds : tie.Need-loop-holds Inv-loop μ-loop
 loop-holds c = (search needs, halves-start _ _ _ _ _)
 
--- src/work.rt:210:11
 add-loop : tie.Need-add-loop Inv-loop μ-loop
 add-loop c = search needs
 
--- src/work.rt:211:41
 mul-eight : tie.Need-mul-eight Inv-loop μ-loop
 mul-eight c = omega (arith, c .before .loop .inv .1 .long, c .before .before .before .before .before .pre .within, c .before .before .before .before .before .pre .two)
 
--- src/work.rt:211:41
 sub-eight : tie.Need-sub-eight Inv-loop μ-loop
 sub-eight c = search needs
 
--- src/work.rt:211:41
 part-eight-start : tie.Need-part-eight-start Inv-loop μ-loop
 part-eight-start c = search needs
 
--- src/work.rt:211:41
 part-eight-end : tie.Need-part-eight-end Inv-loop μ-loop
 part-eight-end c = let l = c .before .before in omega (arith, l .loop .inv .1 .long, l .before .before .before .before .pre .within, l .before .before .before .before .pre .two)
 
--- src/work.rt:211:56
 mul-eight-2 : tie.Need-mul-eight-2 Inv-loop μ-loop
 mul-eight-2 c = search needs
 
--- src/work.rt:211:13
 eight-requires : tie.Need-eight-requires Inv-loop μ-loop
 eight-requires c κs =
     let w = c .before .before in
@@ -79,35 +69,27 @@ eight-requires c κs =
     let e : a .from + (2 * a .m + a .f - 2) - a .from ≡ 2 * a .m + a .f - 2 = omega arith in
     record { lows = s .pre .lows; highs = s .pre .highs; within = omega (arith, n, ap (λ (k : ℕ). length (take k (drop (a .from) (l .loop .s)))) e, w .loop-test .taken, s .pre .two) }
 
--- src/work.rt:212:30
-add-put-approx : tie.Need-add-put-approx Inv-loop μ-loop
-add-put-approx c = search needs
+add-put : tie.Need-add-put Inv-loop μ-loop
+add-put c = search needs
 
--- src/work.rt:212:9
-put-approx-requires : tie.Need-put-approx-requires Inv-loop μ-loop
-put-approx-requires c κs = omega (arith, room (c .before .before .before .before))
+put-requires : tie.Need-put-requires Inv-loop μ-loop
+put-requires c κs = omega (arith, room (c .before .before .before .before))
 
--- src/work.rt:213:30
-add-put-detail : tie.Need-add-put-detail Inv-loop μ-loop
-add-put-detail c = search needs
+add-put-2 : tie.Need-add-put-2 Inv-loop μ-loop
+add-put-2 c = search needs
 
--- src/work.rt:213:30
-add-put-detail-2 : tie.Need-add-put-detail-2 Inv-loop μ-loop
-add-put-detail-2 c = search needs
+add-put-3 : tie.Need-add-put-3 Inv-loop μ-loop
+add-put-3 c = search needs
 
--- src/work.rt:213:9
-put-detail-requires : tie.Need-put-detail-requires Inv-loop μ-loop
-put-detail-requires c κs = let p = c .before .before .before in omega (arith, p .put-approx .kept .1 .0, room (p .before .before .before .before .before))
+put-requires-2 : tie.Need-put-requires-2 Inv-loop μ-loop
+put-requires-2 c κs = let p = c .before .before .before in omega (arith, p .put .kept .1 .1 .0, room (p .before .before .before .before .before))
 
--- src/work.rt:214:9
 add-i : tie.Need-add-i Inv-loop μ-loop
 add-i c = search needs
 
--- src/work.rt:210:5
 loop-less : tie.Need-loop-less Inv-loop μ-loop
 loop-less c = search needs
 
--- src/work.rt:210:5
 loop-again : tie.Need-loop-again Inv-loop μ-loop
 loop-again c =
     let d = c .before .before in
@@ -126,18 +108,16 @@ loop-again c =
     let there = take (a .from + (2 * a .m + a .f - 2) - a .from) (drop (a .from) (l .loop .s)) in
     let same : there ≡ line = line-same _ _ (a .f) (a .from) (a .to) (a .m) i (a .from + (2 * a .m + a .f - 2) - a .from) x (l .loop .s) (s .pre .before) (omega arith) (l .loop .inv .1) in (
       omega (arith, w .loop-test .taken),
-      halves-run (bandOf binary64 low (a .f) line) (bandOf binary64 high (a .f) line) (λ q. pairAt pairs q .approx) (λ q. pairAt pairs q .detail) (a .to) (a .m) i 8 x (l .loop .s)
+      halves-run (bandOf binary64 low (a .f) line) (bandOf binary64 high (a .f) line) (λ q. sumOf false (pairAt pairs q)) (λ q. sumOf true (pairAt pairs q)) (a .to) (a .m) i 8 x (l .loop .s)
           (omega (arith, w .loop-test .taken)) (omega (arith, s .pre .before, s .pre .within)) (l .loop .inv .1)
           (λ q k. sums-at binary64 low high there (a .f) i 8 pairs (g .eight .ensures) q k .0 ∙ ap (λ (y : List Float). bandOf binary64 low (a .f) y (i + q)) same)
           (λ q k. sums-at binary64 low high there (a .f) i 8 pairs (g .eight .ensures) q k .1 ∙ ap (λ (y : List Float). bandOf binary64 high (a .f) y (i + q)) same)
-          (p .put-approx .ensures) (d .put-detail .ensures),
+          (p .put .ensures) (d .put2 .ensures),
     )
 
--- src/work.rt:196:1
 same-length : tie.Need-same-length Inv-loop μ-loop
 same-length c = c .before .loop .inv .1 .long
 
--- src/work.rt:196:1
 returns : tie.Need-returns Inv-loop μ-loop
 returns c = c .before .loop .inv
 
@@ -159,11 +139,11 @@ eights-within-spec =
     part-eight-end
     mul-eight-2
     eight-requires
-    add-put-approx
-    put-approx-requires
-    add-put-detail
-    add-put-detail-2
-    put-detail-requires
+    add-put
+    put-requires
+    add-put-2
+    add-put-3
+    put-requires-2
     add-i
     loop-less
     loop-again
