@@ -30,7 +30,8 @@ same-length c = search needs
 
 returns : tie.Need-returns
 returns c = let g = c .before .before .before .before .before in let t = g .before .before .before in let a = t .before .before .before .before .before .before .before .before .args in
-    sixteen-put binary64 (a .p) (now (a .low)) (now (a .high)) (now (a .approx)) (now (a .detail)) (a .last) (a .k) (a .half) (now (a .out)) refl (t .take-seconds .ensures) (g .gather .ensures) (c .before .before .put-seconds .ensures)
+    sixteen-put binary64 (a .p) (now (a .low)) (now (a .high)) (now (a .approx)) (now (a .detail)) (a .last) (a .k) (a .half) (now (a .out)) refl
+    (t .take-seconds .ensures) (g .gather .ensures) (c .before .before .put-seconds .ensures)
 
 pub sixteen-spec : {M : Type 1} → statement M
 sixteen-spec =

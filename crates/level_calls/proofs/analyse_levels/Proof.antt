@@ -3,6 +3,7 @@ use Rattle.level_calls.specs.Calls.{levels-hidden, levels-ready, levels-
 use denote.Ref.{now}
 use mathlib.Core.Path.{sym, _∙_}
 use borrow.Author.Needs.{needs}
+use native.Mathlib.Omega.{arith}
 use Rattle.level_calls.proofs.analyse_levels.Statement.{statement}
 use Rattle.level_calls.proofs.analyse_levels.Tie as tie
 
@@ -37,8 +38,9 @@ split-requires : tie.Need-split-requires
 split-requires c κs = let m = c .before .before in
     let e = m .before .before in
     let t = e .before in
-    let a = t .before .before .before .before .before .before .before .before .before .before .before .args in (
-      levels-lent (a .border) (now (a .low)) (now (a .high)) (now (a .line)) (a .levels) (now (a .packed)) (now (a .scratch)) (t .before .before .before .taps-of .ensures) (t .before .before .levels-answer .ensures) (t .levels .ensures) (e .if2 .left),
+    let a = t .before .before .before .before .before .before .before .before .before .before .before .args in
+    let b = levels-lent (a .border) (now (a .low)) (now (a .high)) (now (a .line)) (a .levels) (now (a .packed)) (now (a .scratch)) (t .before .before .before .taps-of .ensures) (t .before .before .levels-answer .ensures) (t .levels .ensures) (e .if2 .left) in (
+      omega (arith, b),
       levels-ready (a .border) (now (a .low)) (now (a .high)) (now (a .line)) (a .levels) (now (a .packed)) (now (a .scratch)) (t .before .before .before .taps-of .ensures) (t .before .before .levels-answer .ensures) (t .levels .ensures) (m .most .ensures) (e .if2 .left),
     )
 

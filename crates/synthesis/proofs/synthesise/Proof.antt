@@ -33,7 +33,8 @@ same-length : tie.Need-same-length
 same-length c = search needs
 
 returns-2 : tie.Need-returns-2
-returns-2 c = let e = c .before .before .before .before .before .before .before .before .before in record { answer = sym (e .enum-told .given .1) ∙ e .before .before .synthesis-answer .ensures; joined = c .before .before .join .ensures }
+returns-2 c = let e = c .before .before .before .before .before .before .before .before .before in
+    record { answer = sym (e .enum-told .given .1) ∙ e .before .before .synthesis-answer .ensures; joined = c .before .before .join .ensures }
 
 pub synthesise-spec : {M : Type 1} → statement M
 synthesise-spec =

@@ -68,7 +68,8 @@ loop-again c = let l = c .before .before in let e = l .before .before .before .b
   simp length-set (l .loop .inv .1),
   simp length-set (l .loop .inv .2),
   written-step (bandOf binary64 (now (a .low)) (a .f) (now (a .padded))) (l .loop .i) _ (search needs) (l .loop .inv .3) (c .place .ensures .0),
-  written-step (bandOf binary64 (now (a .high)) (a .f) (now (a .padded))) (l .loop .i) _ (omega (arith, c .before .loop-test .taken, l .loop .inv .1, e .eights .kept .1 .1 .1 .1 .0, e .eights .kept .1 .1 .1 .1 .1 .0, s .pre .both)) (l .loop .inv .4) (c .place .ensures .1),
+  written-step (bandOf binary64 (now (a .high)) (a .f) (now (a .padded))) (l .loop .i) _
+      (omega (arith, c .before .loop-test .taken, l .loop .inv .1, e .eights .kept .1 .1 .1 .1 .0, e .eights .kept .1 .1 .1 .1 .1 .0, s .pre .both)) (l .loop .inv .4) (c .place .ensures .1),
 )
 
 same-length : tie.Need-same-length Inv-loop μ-loop

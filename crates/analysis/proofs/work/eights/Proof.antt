@@ -17,7 +17,9 @@ use Rattle.analysis.proofs.work.eights.Statement.{statement}
 use Rattle.analysis.proofs.work.eights.Tie as tie
 
 abbrev Inv-loop : tie.InvT-loop
-Inv-loop low high f padded approx₀ detail₀ m i₀ approx detail i = (i ≤ length approx₀) × (length approx ≡ length approx₀) × (length detail ≡ length detail₀) × (approx ≡ written (bandOf binary64 low f padded) i approx₀) × (detail ≡ written (bandOf binary64 high f padded) i detail₀)
+Inv-loop low high f padded approx₀ detail₀ m i₀ approx detail i =
+    (i ≤ length approx₀) × (length approx ≡ length approx₀) × (length detail ≡ length detail₀)
+    × (approx ≡ written (bandOf binary64 low f padded) i approx₀) × (detail ≡ written (bandOf binary64 high f padded) i detail₀)
 
 abbrev μ-loop : tie.MeasureT-loop
 μ-loop low high f padded approx₀ detail₀ m i₀ approx detail i = length approx₀ - i

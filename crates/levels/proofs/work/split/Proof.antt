@@ -97,8 +97,8 @@ bands-beside-requires c κs =
     let s = l .before .before .before .before .before .before in
     let m = pairs (l .loop .n) (s .args .f) in
     record {
-      lows = s .pre .0 .lows;
-      highs = s .pre .0 .highs;
+      lows = omega (arith, s .pre .0);
+      highs = omega (arith, s .pre .0);
       filled = mid-len (l .loop .start) (l .loop .start + (m + m)) (l .loop .packed) (omega (arith, t .inside, l .loop .inv .3)) ∙ omega arith;
       within = omega (arith, t .held .next .room, t .held .next .ready .taps .two, l .loop .inv .4, p .pad-level .kept .1 .1 .1 .1 .1 .1 .1 .0);
     }

@@ -2,6 +2,7 @@
 use Rattle.plane_calls.specs.Calls.{synthesis-ready, synthesis-lent, synthesis-refused, synthesis-done}
 use denote.Ref.{now}
 use borrow.Author.Needs.{needs}
+use native.Mathlib.Omega.{arith}
 use Rattle.plane_calls.proofs.joining.synthesise_plane.Statement.{statement}
 use Rattle.plane_calls.proofs.joining.synthesise_plane.Tie as tie
 
@@ -21,7 +22,7 @@ join-plane-requires : tie.Need-join-plane-requires
 join-plane-requires c κs = let e = c .before .before in let t = e .before in let a = t .before .before .before .before .before .before .before .before .before .before .before .before .args in
     let b = synthesis-lent (now (a .low)) (now (a .high)) (now (a .ll)) (now (a .lh)) (now (a .hl)) (now (a .hh)) (a .width) (a .height) (now (a .plane)) (now (a .scratch))
     (t .before .before .before .taps-of .ensures) (t .before .before .plane-synthesis-answer .ensures) (t .plane-told .ensures) (e .if1 .left) in (
-      b,
+      omega (arith, b),
       synthesis-ready (now (a .low)) (now (a .high)) (now (a .ll)) (now (a .lh)) (now (a .hl)) (now (a .hh)) (a .width) (a .height) (now (a .plane)) (now (a .scratch))
           (t .before .before .before .taps-of .ensures) (t .before .before .plane-synthesis-answer .ensures) (t .plane-told .ensures) (e .if1 .left),
     )

@@ -3,6 +3,7 @@ use Rattle.plane_calls.specs.Calls.{analysis-hidden, analysis-ready, ana
 use denote.Ref.{now}
 use mathlib.Core.Path.{sym, _∙_}
 use borrow.Author.Needs.{needs}
+use native.Mathlib.Omega.{arith}
 use Rattle.plane_calls.proofs.splitting.analyse_plane.Statement.{statement}
 use Rattle.plane_calls.proofs.splitting.analyse_plane.Tie as tie
 
@@ -31,12 +32,13 @@ border-of-requires : tie.Need-border-of-requires
 border-of-requires c κs = search needs
 
 split-plane-requires : tie.Need-split-plane-requires
-split-plane-requires c κs = let e = c .before .before .before .before .before .before in let t = e .before in let a = t .before .before .before .before .before .before .before .before .before .before .before .before .before .before .args in (
-  analysis-lent (a .border) (now (a .low)) (now (a .high)) (now (a .plane)) (a .width) (a .height) (now (a .ll)) (now (a .lh)) (now (a .hl)) (now (a .hh)) (now (a .scratch))
-      (t .before .before .before .taps-of .ensures) (t .before .before .plane-analysis-answer .ensures) (t .plane-told .ensures) (e .if2 .left),
-  analysis-ready (a .border) (now (a .low)) (now (a .high)) (now (a .plane)) (a .width) (a .height) (now (a .ll)) (now (a .lh)) (now (a .hl)) (now (a .hh)) (now (a .scratch))
-      (t .before .before .before .taps-of .ensures) (t .before .before .plane-analysis-answer .ensures) (t .plane-told .ensures) (e .if2 .left),
-)
+split-plane-requires c κs = let e = c .before .before .before .before .before .before in let t = e .before in let a = t .before .before .before .before .before .before .before .before .before .before .before .before .before .before .args in
+    let b = analysis-lent (a .border) (now (a .low)) (now (a .high)) (now (a .plane)) (a .width) (a .height) (now (a .ll)) (now (a .lh)) (now (a .hl)) (now (a .hh)) (now (a .scratch))
+    (t .before .before .before .taps-of .ensures) (t .before .before .plane-analysis-answer .ensures) (t .plane-told .ensures) (e .if2 .left) in (
+      omega (arith, b),
+      analysis-ready (a .border) (now (a .low)) (now (a .high)) (now (a .plane)) (a .width) (a .height) (now (a .ll)) (now (a .lh)) (now (a .hl)) (now (a .hh)) (now (a .scratch))
+          (t .before .before .before .taps-of .ensures) (t .before .before .plane-analysis-answer .ensures) (t .plane-told .ensures) (e .if2 .left),
+    )
 
 same-length : tie.Need-same-length
 same-length c = search needs

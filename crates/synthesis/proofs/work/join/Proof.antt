@@ -43,9 +43,11 @@ loop-less : tie.Need-loop-less Inv-loop μ-loop
 loop-less c = search needs
 
 loop-again : tie.Need-loop-again Inv-loop μ-loop
-loop-again c = let x = c .before .before in let i = x .before .before in let l = i .before in let o = l .before .before .before in let s = o .before .before .before .before .before .before .before in let a = s .args in let k = l .loop .k in
+loop-again c = let x = c .before .before in let i = x .before .before in let l = i .before in let o = l .before .before .before in
+    let s = o .before .before .before .before .before .before .before in let a = s .args in let k = l .loop .k in
     let fits : 2 * k + 2 ≤ length (o .thirty-twos .last .1 .1 .1 .1 .1 .0) = omega (arith, long o, i .loop-test .taken, s .pre .all .ruled, s .pre .all .even) in
-    let next = join-run binary64 (a .f) (now (a .low)) (now (a .high)) (now (a .approx)) (now (a .detail)) (o .thirty-twos .result) k (k + 1) 2 _ (l .loop .inv .0) (omega arith) fits (l .loop .inv .3) (x .two-at .ensures) in
+    let next = join-run binary64 (a .f) (now (a .low)) (now (a .high)) (now (a .approx)) (now (a .detail)) (o .thirty-twos .result) k (k + 1) 2 _
+    (l .loop .inv .0) (omega arith) fits (l .loop .inv .3) (x .two-at .ensures) in
     (search needs, omega (arith, fits), search needs, next)
 
 same-length : tie.Need-same-length Inv-loop μ-loop
@@ -53,7 +55,8 @@ same-length c = search needs
 
 returns : tie.Need-returns Inv-loop μ-loop
 returns c = let l = c .before in let o = l .before .before .before in let a = o .before .before .before .before .before .before .before .args in
-    join-end binary64 (a .f) (now (a .low)) (now (a .high)) (now (a .approx)) (now (a .detail)) (o .thirty-twos .result) (l .loop .k) (now (a .out)) (l .loop .inv .0) (omega (arith, l .loop .inv .1, long o)) (search needs) (o .thirty-twos .ensures .1) (l .loop .inv .3)
+    join-end binary64 (a .f) (now (a .low)) (now (a .high)) (now (a .approx)) (now (a .detail)) (o .thirty-twos .result) (l .loop .k) (now (a .out))
+    (l .loop .inv .0) (omega (arith, l .loop .inv .1, long o)) (search needs) (o .thirty-twos .ensures .1) (l .loop .inv .3)
 
 pub join-spec : {M : Type 1} → statement M
 join-spec =

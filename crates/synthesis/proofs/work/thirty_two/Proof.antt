@@ -42,7 +42,8 @@ loop-less c = search needs
 
 loop-again : tie.Need-loop-again Inv-loop μ-loop
 loop-again c = let x = c .before .before in let l = x .before .before .before in let s = l .before .before .before .before .before .before in let a = s .args in
-    let next = turn-step binary64 (a .f) (now (a .low)) (now (a .high)) (now (a .approx)) (now (a .detail)) (a .k) (now (a .out)) (l .loop .out) (l .loop .e) (s .pre .0 .all) (s .pre .1) (omega (arith, x .before .before .loop-test .taken)) (l .loop .inv .2) (x .sixteen .ensures) in
+    let next = turn-step binary64 (a .f) (now (a .low)) (now (a .high)) (now (a .approx)) (now (a .detail)) (a .k) (now (a .out)) (l .loop .out) (l .loop .e) (s .pre .0 .all) (s .pre .1)
+    (omega (arith, x .before .before .loop-test .taken)) (l .loop .inv .2) (x .sixteen .ensures) in
     (search needs, next .kept, next)
 
 same-length : tie.Need-same-length Inv-loop μ-loop

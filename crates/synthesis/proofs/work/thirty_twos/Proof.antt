@@ -28,7 +28,8 @@ add-loop : tie.Need-add-loop Inv-loop μ-loop
 add-loop c = search needs
 
 thirty-two-requires : tie.Need-thirty-two-requires Inv-loop μ-loop
-thirty-two-requires c κs = let i = c .before in let l = i .before in let s = l .before .before .before .before .before .before in (still-taking (s .pre) (l .loop .inv .1), omega (arith, l .loop .inv .1, i .loop-test .taken))
+thirty-two-requires c κs = let i = c .before in let l = i .before in let s = l .before .before .before .before .before .before in
+    (still-taking (s .pre) (l .loop .inv .1), omega (arith, l .loop .inv .1, i .loop-test .taken))
 
 add-k : tie.Need-add-k Inv-loop μ-loop
 add-k c = search needs
@@ -38,7 +39,8 @@ loop-less c = search needs
 
 loop-again : tie.Need-loop-again Inv-loop μ-loop
 loop-again c = let x = c .before .before in let i = x .before .before in let l = i .before in let a = l .before .before .before .before .before .before .args in let k = l .loop .k in
-    let next = join-run binary64 (a .f) (now (a .low)) (now (a .high)) (now (a .approx)) (now (a .detail)) 0 k (k + 16) 32 (now (a .out)) (omega arith) (omega arith) (omega (arith, i .loop-test .taken)) (l .loop .inv .2) (x .thirty-two .ensures) in
+    let next = join-run binary64 (a .f) (now (a .low)) (now (a .high)) (now (a .approx)) (now (a .detail)) 0 k (k + 16) 32 (now (a .out))
+    (omega arith) (omega arith) (omega (arith, i .loop-test .taken)) (l .loop .inv .2) (x .thirty-two .ensures) in
     (omega (arith, i .loop-test .taken), search needs, next)
 
 same-length : tie.Need-same-length Inv-loop μ-loop

@@ -89,8 +89,12 @@ loop-less : tie.Need-loop-less Inv-loop μ-loop
 loop-less c = search needs
 
 loop-again : tie.Need-loop-again Inv-loop μ-loop
-loop-again c = let i = c .before .before .before .before .before .before in let l = i .before in let a = l .before .before .before .args in
-    (search needs, search needs, two-step binary64 (a .f) (now (a .low)) (now (a .high)) (now (a .approx)) (now (a .detail)) (a .k) (now (a .out)) (l .loop .i) (l .loop .j) (l .loop .inv .0) (l .loop .inv .1) (omega (arith, i .loop-test .taken)) (l .loop .inv .2))
+loop-again c = let i = c .before .before .before .before .before .before in let l = i .before in let a = l .before .before .before .args in (
+  search needs,
+  search needs,
+  two-step binary64 (a .f) (now (a .low)) (now (a .high)) (now (a .approx)) (now (a .detail)) (a .k) (now (a .out))
+      (l .loop .i) (l .loop .j) (l .loop .inv .0) (l .loop .inv .1) (omega (arith, i .loop-test .taken)) (l .loop .inv .2),
+)
 
 mul-out : tie.Need-mul-out Inv-loop μ-loop
 mul-out c = search needs
@@ -118,7 +122,8 @@ same-length c = search needs
 
 returns : tie.Need-returns Inv-loop μ-loop
 returns c = let l = c .before in let s = l .before .before .before in let a = s .args in
-    two-end binary64 (a .f) (now (a .low)) (now (a .high)) (now (a .approx)) (now (a .detail)) (a .k) (now (a .out)) (l .loop .i) (l .loop .j) (s .pre .0 .all) (s .pre .1) (l .loop .inv .0) (l .loop .inv .1) (search needs) (l .loop .inv .2)
+    two-end binary64 (a .f) (now (a .low)) (now (a .high)) (now (a .approx)) (now (a .detail)) (a .k) (now (a .out))
+    (l .loop .i) (l .loop .j) (s .pre .0 .all) (s .pre .1) (l .loop .inv .0) (l .loop .inv .1) (search needs) (l .loop .inv .2)
 
 pub two-at-spec : {M : Type 1} → statement M
 two-at-spec =
