@@ -67,12 +67,7 @@ fn best(mut timed: impl FnMut()) -> f64 {
 fn time(side: &str, case: Case) {
     // so often that the clock's own step does not show
     let runs = (SAMPLES_A_TIMING / case.samples()).max(1);
-    with_calls(side, case, |calls| {
-        let mut taken = |times| best(|| (0..runs).for_each(|_| calls(times))) / runs as f64;
-        // by bank two calls and one differ by a call, and both make the bank
-        let call = if case.by_bank() { taken(2) - taken(1) } else { taken(1) };
-        println!("{call:.1}");
-    });
+    with_calls(side, case, |calls| println!("{:.1}", best(|| (0..runs).for_each(|_| calls(1))) / runs as f64));
 }
 
 fn main() {
