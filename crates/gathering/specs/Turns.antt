@@ -11,8 +11,8 @@ use lib.Ieee.{Float, Format, nan}
 use Rattle.numbers.specs.Words.{at, tab}
 use Rattle.numbers.specs.Write.{length-tab, getD-tab, tab-getD}
 use Rattle.numbers.specs.Places.{tab-same}
-use Rattle.gathering.specs.Pairs.{onto, ontoAt, gathered, gatheredAt}
-use Rattle.gathering.specs.Works.{Seconds}
+use Rattle.gathering.specs.Pairs.{onto}
+use Rattle.gathering.specs.Works.{Seconds, ontoAt, gathered, gatheredAt}
 
 -- ---- a loop over the pairs: as it begins, one pair, and as it ends
 module _ (f : Format) (low high a d : List Float) (last k n : ℕ) (held : List Float) where

@@ -6,8 +6,7 @@ ghost use Prim.Native.Nat.{_+_, _*_, _≤_, _<_};
 ghost use lib.ListN.{length};
 ghost use lib.Ieee.{binary64};
 ghost use Rattle.numbers.specs.Words.{at, tab};
-ghost use Rattle.gathering.specs.Pairs.{ontoAt, gatheredAt};
-ghost use Rattle.gathering.specs.Works.{Adding, Gatherable, Seconds};
+ghost use Rattle.gathering.specs.Works.{Adding, Gatherable, Seconds, ontoAt, gatheredAt};
 use crate::seconds::put_seconds;
 use crate::seconds::take_seconds;
 

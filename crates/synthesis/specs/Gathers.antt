@@ -5,7 +5,8 @@ use native.Mathlib.Omega.{arith}
 use native.Mathlib.Nat.{add-suc, add-zero, le-refl}
 use lib.Ieee.{Float, Format}
 use Rattle.numbers.specs.Tests.{cond-true, cond-false}
-use Rattle.gathering.specs.Pairs.{onto, gathered}
+use Rattle.gathering.specs.Pairs.{onto}
+use Rattle.gathering.specs.Works.{gathered}
 use Rattle.synthesis.specs.Sums.{meets, joined}
 use Rattle.synthesis.specs.Meets.{meets-yes, meets-before, meets-past}
 

@@ -11,8 +11,8 @@ use Rattle.numbers.specs.Words.{at, tab, placed, replaced}
 use Rattle.numbers.specs.Write.{length-tab, getD-tab, written-all, placed-start, placed-step, getD-placed-behind}
 use Rattle.numbers.specs.Places.{tab-same, placed-front, is-placed}
 use Rattle.numbers.specs.Runs.{placed-same, placed-more}
-use Rattle.gathering.specs.Pairs.{onto, gathered, gatheredAt}
-use Rattle.gathering.specs.Works.{Seconds}
+use Rattle.gathering.specs.Pairs.{onto}
+use Rattle.gathering.specs.Works.{Seconds, gathered, gatheredAt}
 use Rattle.synthesis.specs.Sums.{joined}
 use Rattle.synthesis.specs.Lines.{synthesised}
 use Rattle.synthesis.specs.Works.{Joinable, Taking, placeOf, joinedFrom}

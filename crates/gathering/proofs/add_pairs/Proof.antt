@@ -10,7 +10,8 @@ use lib.Ieee.{Float, binary64, nan}
 use Rattle.numbers.specs.Words.{at, tab, written}
 use Rattle.numbers.specs.Places.{getD-written-behind}
 use Rattle.numbers.specs.Write.{written-full, written-start, written-step}
-use Rattle.gathering.specs.Pairs.{onto, ontoAt}
+use Rattle.gathering.specs.Pairs.{onto}
+use Rattle.gathering.specs.Works.{ontoAt}
 use Rattle.gathering.proofs.add_pairs.Statement.{statement}
 use Rattle.gathering.proofs.add_pairs.Tie as tie
 

@@ -7,7 +7,7 @@ use lib.ListN.{length}
 use lib.Ieee.{binary64}
 use Rattle.numbers.specs.Words.{tab}
 use Rattle.numbers.specs.Write.{length-tab}
-use Rattle.gathering.specs.Pairs.{gatheredAt}
+use Rattle.gathering.specs.Works.{gatheredAt}
 use Rattle.gathering.specs.Turns.{gather-start, gather-step, gather-end}
 use Rattle.gathering.proofs.gather.Statement.{statement}
 use Rattle.gathering.proofs.gather.Tie as tie
