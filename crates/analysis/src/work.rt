@@ -60,7 +60,7 @@ pub fn bands(
     }
 }
 
-// Eight places a turn into one buffer, the details in front, the approximations behind them.
+// Eight places a turn of both bands in one buffer; the answer is how many are done.
 fn eights_beside(
     low: &[f64],
     high: &[f64],
@@ -82,7 +82,7 @@ fn eights_beside(
     i
 }
 
-// The same into one buffer: the details in front, the approximations behind them.
+// Both bands of a padded line into one buffer: the details in front, the approximations behind them.
 pub fn bands_beside(low: &[f64], high: &[f64], f: usize, padded: &[f64], both: &mut [f64], m: usize)
     requires { ⌜ Beside f (length (now low)) (length (now high)) (length (now padded)) (length (now both)) m ⌝ }
     ensures { λ _. ⌜ now (both .exit) ≡ tab (bandOf binary64 (now (high .entry)) f (now (padded .entry))) m ++ tab (bandOf binary64 (now (low .entry)) f (now (padded .entry))) m ⌝ }
@@ -96,7 +96,7 @@ pub fn bands_beside(low: &[f64], high: &[f64], f: usize, padded: &[f64], both: &
     }
 }
 
-// Eight places a turn where the padded line lies in the buffer that takes the bands.
+// Eight places a turn where the padded line lies in the buffer that takes the bands; the answer is how many are done.
 fn eights_within(
     low: &[f64],
     high: &[f64],
@@ -120,7 +120,7 @@ fn eights_within(
     i
 }
 
-// The same where the padded line lies in the buffer that takes the bands, from `from` on: the approximations go to it from `to` on, the details behind them.
+// Both bands of a padded line that lies in the buffer which takes them, from `from` on: the approximations go to it from `to` on, the details behind them.
 pub fn bands_within(
     low: &[f64],
     high: &[f64],

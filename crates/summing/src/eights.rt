@@ -53,7 +53,7 @@ fn sum_of(pair: Pair, detail: bool) -> f64
     pair.approx
 }
 
-// Eight places of one band. Each band is put by itself: stored by turns, they would not be summed two to a register.
+// Eight places of one band, the details or else the approximations. Each band is put by itself: stored by turns, they would not be summed two to a register.
 pub fn put(pairs: [Pair; 8], detail: bool, out: &mut [f64], to: usize)
     requires { ⌜ to + 8 ≤ length (now out) ⌝ }
     ensures { λ _. ⌜ now (out .exit) ≡ placed (λ q. sumOf detail (pairAt pairs q)) to 8 (now (out .entry)) ⌝ }
