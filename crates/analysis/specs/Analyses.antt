@@ -7,7 +7,7 @@ use lib.Dec.{ltb, eqb}
 use lib.ListN.{length}
 use lib.Ieee.{Float, binary64}
 use Rattle.numbers.specs.Words.{longest, whenDone}
-use Rattle.bank.specs.declared.Bank.{Bank}
+use Rattle.border.specs.declared.Border.{Border}
 use Rattle.analysis.specs.declared.Analysis.{Analysis}
 use Rattle.analysis.specs.declared.Analysis.the-variants.{Done, MinFilterSize, ApproxDetailsSize, ScratchSize, Limit, Taps}
 use Rattle.analysis.specs.Lines.{band, paddedInto}
@@ -41,8 +41,9 @@ answerOf f n a d s =
     (cond (ltb s (paddedLength n f)) (ScratchSize (paddedLength n f) s)
     Done)))))
 
-pub record Analysed (bank : Bank) (line approx detail scratch : List Float) (r : Analysis) (approx′ detail′ scratch′ : List Float) : Type 0 where
-  pub answer : r ≡ answerOf (bank .taps) (length line) (length approx) (length detail) (length scratch)
-  pub approxes : approx′ ≡ whenDone (numberOf r) (band binary64 (bank .low) (bank .taps) (bank .border) line) approx
-  pub details : detail′ ≡ whenDone (numberOf r) (band binary64 (bank .high) (bank .taps) (bank .border) line) detail
-  pub scratched : scratch′ ≡ whenDone (numberOf r) (paddedInto (bank .taps) (bank .border) line scratch) scratch
+-- by the first f of either tap list, under a border: of a bank its arrays, count and border
+pub record Analysed (low high : List Float) (f : ℕ) (b : Border) (line approx detail scratch : List Float) (r : Analysis) (approx′ detail′ scratch′ : List Float) : Type 0 where
+  pub answer : r ≡ answerOf f (length line) (length approx) (length detail) (length scratch)
+  pub approxes : approx′ ≡ whenDone (numberOf r) (band binary64 low f b line) approx
+  pub details : detail′ ≡ whenDone (numberOf r) (band binary64 high f b line) detail
+  pub scratched : scratch′ ≡ whenDone (numberOf r) (paddedInto f b line scratch) scratch

@@ -1,9 +1,9 @@
 // Analysis of one line.
+pub mod lists;
 pub mod work;
 
 ghost use mathlib.Core.Path.{_≡_};
 ghost use Rattle.analysis.specs.Analyses.{answerOf, Analysed};
-use crate::work::line_bands;
 use bank::Bank;
 use bank::sizes::bad_taps;
 use numbers::LONGEST;
@@ -55,17 +55,12 @@ pub fn analyse(
     detail: &mut [f64],
     scratch: &mut [f64],
 ) -> Analysis
-    ensures { λ r. ⌜ Analysed bank (now (line .entry)) (now (approx .entry)) (now (detail .entry)) (now (scratch .entry))
+    ensures { λ r. ⌜ Analysed (bank .low) (bank .high) (bank .taps) (bank .border) (now (line .entry)) (now (approx .entry)) (now (detail .entry)) (now (scratch .entry))
         r (now (approx .exit)) (now (detail .exit)) (now (scratch .exit)) ⌝ }
 {
     let f = bank.taps;
-    let answer = analysis_answer(f, line.len(), approx.len(), detail.len(), scratch.len());
-    let Analysis::Done = answer else {
-        return answer;
-    };
     let border = bank.border;
     let low = &bank.low;
     let high = &bank.high;
-    line_bands(low, high, f, border, line, approx, detail, scratch);
-    Analysis::Done
+    lists::analyse(low, high, f, border, line, approx, detail, scratch)
 }

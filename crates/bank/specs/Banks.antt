@@ -6,7 +6,7 @@ use Prim.Native.Nat.{ℕ, _-_, _%_}
 use lib.Dec.{eqb}
 use lib.ListN.{length, replicate}
 use lib.Ieee.{Float, neg}
-use Rattle.numbers.specs.Words.{plusZero, at, written, whenDone}
+use Rattle.numbers.specs.Words.{plusZero, at, tab, written, whenDone}
 use Rattle.border.specs.declared.Border.{Border}
 use Rattle.bank.specs.declared.Bank.{Bank}
 use Rattle.bank.specs.declared.making.Making.{Making}
@@ -25,6 +25,10 @@ valuesOf Taps = []
 -- 12 where the lists are odd, empty, over 64 or unequal
 abbrev pub answerOf : ℕ → ℕ → Making
 answerOf low high = cond (badTaps low || not (eqb high low)) Taps Done
+
+-- how many taps lists of these lengths have in each; none where they make no bank, so that the tests refuse them by 12
+abbrev pub tapsOf : ℕ → ℕ → ℕ
+tapsOf low high = whenDone (numberOf (answerOf low high)) low 0
 
 -- an array of taps before any is in it
 abbrev pub zeros : List Float
@@ -64,3 +68,8 @@ pub record BankMade (low high : List Float) (b : Border) (r : Making) (bank : Ba
 pub record MirrorMade (low : List Float) (b : Border) (r : Making) (bank : Bank) : Type 0 where
   pub answer : r ≡ answerOf (length low) (length low)
   pub made : bank ≡ whenDone (numberOf r) (bankOf low (mirror low) b) (noBank b)
+
+-- the high taps by themselves, into a list that has to be as long as the low one
+pub record Mirrored (low high : List Float) (r : Making) (high′ : List Float) : Type 0 where
+  pub answer : r ≡ answerOf (length low) (length high)
+  pub mirrored : high′ ≡ whenDone (numberOf r) (tab (mirror low) (length low)) high

@@ -41,3 +41,7 @@ pub record Analysable (n f : ℕ) : Type 0 where
 pub record Lent (f low high : ℕ) : Type 0 where
   pub lows : f ≤ low
   pub highs : f ≤ high
+
+-- a count told beside two lists: if it passes the test of taps, they may be lent with it
+abbrev pub Counted : ℕ → ℕ → ℕ → Type 0
+Counted f low high = GoodTaps f → Lent f low high

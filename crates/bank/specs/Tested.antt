@@ -8,7 +8,7 @@ use Rattle.bank.specs.declared.making.Making.the-variants as making
 use Rattle.bank.specs.Banks as Banks
 use Rattle.bank.specs.Sizes as Sizes
 use Prim.Native.Nat.{_%_, _<_, _≤_, suc, zero, ℕ, _+_, _-_, _*_, _/_}
-use Rattle.bank.specs.Lengths.{badTaps, pairs, wholePad, GoodTaps, Analysable, Lent}
+use Rattle.bank.specs.Lengths.{badTaps, pairs, wholePad, GoodTaps, Analysable, Counted}
 use Rattle.numbers.specs.Tests.{neither, passed}
 use Rattle.numbers.specs.Words.{longest, whenDone}
 use borrow.Author.Tests.{eqb-false, eqb-true, ltb-false, not-false, eq-eqb, ne-eqb, le-ltb}
@@ -18,7 +18,7 @@ use native.Mathlib.Omega.{arith}
 use Rattle.border.specs.declared.Border.{Border}
 use lib.Ieee.{Float}
 use mathlib.Core.Logic.{_≢_}
-use mathlib.Core.List.{List}
+use mathlib.Core.List.{List, []}
 
 pub good-taps : (f : ℕ) → badTaps f ≡ false → GoodTaps f
 unfolding badTaps
@@ -33,9 +33,9 @@ good-taps f e =
     some (suc zero) h z = absurd (omega arith)
     some (suc (suc f)) h z = omega arith
 
--- a bank's lists, lent whole
-pub lent-all : {f low high : ℕ} → f ≤ 64 → low ≡ 64 → high ≡ 64 → Lent f low high
-lent-all k e g = record { lows = omega (arith, k, e); highs = omega (arith, k, g) }
+-- a bank's arrays, with any count
+pub counted-all : {f low high : ℕ} → low ≡ 64 → high ≡ 64 → Counted f low high
+counted-all e g = λ p. record { lows = omega (arith, p .most, e); highs = omega (arith, p .most, g) }
 
 pub taps-pass : (f : ℕ) → GoodTaps f → badTaps f ≡ false
 unfolding badTaps
@@ -101,3 +101,8 @@ pub made-bank : {b : Border} {r : Making} {bank : Bank} {l h l′ h′ : List Fl
 made-bank {b} {r} {bank} {l} {h} {l′} {h′} {f} e q p s =
     q ∙ ap (λ (x : List Float). Banks.heldIn x h f b) p ∙ ap (λ (x : List Float). Banks.heldIn l′ x f b) s
     ∙ sym (ap (λ (k : Making). whenDone (Banks.numberOf k) (Banks.heldIn l′ h′ f b) (Banks.noBank b)) e)
+
+-- neither answer carries anything
+pub making-bare : (r : Making) → Banks.valuesOf r ≡ []
+making-bare making.Done = refl
+making-bare making.Taps = refl

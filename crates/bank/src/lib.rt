@@ -1,6 +1,7 @@
 // The bank of filters: its record, how it is made, and the lengths that a user has to know to lend buffers.
 pub mod making;
 pub mod sizes;
+pub mod taps;
 
 use border::Border;
 

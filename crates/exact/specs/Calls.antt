@@ -99,7 +99,7 @@ module _ (bank : Bank) (line approx detail scratch out : List Float) where
 
   -- the two promises, one after the other
   pub returned-done : {r : Back} {there : Analysis} {back : Synthesis} {a d s clear o : List Float} → r ≡ lengths → r ≡ way.Done
-      → Analyses.Analysed bank line approx detail scratch there a d s → clear ≡ cleared (length out) → Syntheses.Synthesised bank a d clear back o
+      → Analyses.Analysed (bank .low) (bank .high) (bank .taps) (bank .border) line approx detail scratch there a d s → clear ≡ cleared (length out) → Syntheses.Synthesised (bank .low) (bank .high) (bank .taps) a d clear back o
       → Returned bank line approx detail scratch out way.Done a d s o
   returned-done {r} {there} {back} {a} {d} {s} {clear} {o} e z p c q = record {
     answer = sym z ∙ e;

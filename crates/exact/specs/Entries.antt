@@ -7,7 +7,7 @@ use lib.ListN.{length}
 use lib.IntN.{ℤ}
 use lib.Ieee.{Float, binary64}
 use Rattle.numbers.specs.Tests.{renewed}
-use Rattle.bank.specs.declared.Bank.{Bank}
+use Rattle.border.specs.declared.Border.{Border}
 use Rattle.bank.specs.Lengths.{pairs, lineLength}
 use Rattle.analysis.specs.declared.Analysis.{Analysis}
 use Rattle.analysis.specs.declared.Analysis.the-variants as analysis
@@ -21,27 +21,27 @@ use Rattle.synthesis.specs.Tested.{joinable}
 use Rattle.exact.specs.Restoring.{squares, Premises, Cleared, thereAndBack, Restored}
 use Rattle.exact.specs.Exact.{exact}
 
-module _ {bank : Bank} {line approx detail scratch : List Float} {there : Analysis} {a d s : List Float}
-    (p : Analyses.Analysed bank line approx detail scratch there a d s) (went : there ≡ analysis.Done) where
-  pub approxed : a ≡ band binary64 (bank .low) (bank .taps) (bank .border) line
+module _ {low high : List Float} {F : ℕ} {b : Border} {line approx detail scratch : List Float} {there : Analysis} {a d s : List Float}
+    (p : Analyses.Analysed low high F b line approx detail scratch there a d s) (went : there ≡ analysis.Done) where
+  pub approxed : a ≡ band binary64 low F b line
   approxed = renewed _ _ (ap Analyses.numberOf went) (p .approxes)
 
-  pub detailed : d ≡ band binary64 (bank .high) (bank .taps) (bank .border) line
+  pub detailed : d ≡ band binary64 high F b line
   detailed = renewed _ _ (ap Analyses.numberOf went) (p .details)
 
-  pub approx-length : length a ≡ pairs (length line) (bank .taps)
-  approx-length = ap length approxed ∙ length-band binary64 (bank .low) (bank .taps) (bank .border) line
+  pub approx-length : length a ≡ pairs (length line) F
+  approx-length = ap length approxed ∙ length-band binary64 low F b line
 
-  pub detail-length : length d ≡ pairs (length line) (bank .taps)
-  detail-length = ap length detailed ∙ length-band binary64 (bank .high) (bank .taps) (bank .border) line
+  pub detail-length : length d ≡ pairs (length line) F
+  detail-length = ap length detailed ∙ length-band binary64 high F b line
 
-  module _ {out : List Float} {back : Synthesis} {o : List Float} (q : Syntheses.Synthesised bank a d out back o) (came : back ≡ synthesis.Done) where
-    pub rejoined : o ≡ thereAndBack binary64 (bank .taps) (bank .low) (bank .high) (bank .low) (bank .high) (bank .border) line out
+  module _ {out : List Float} {back : Synthesis} {o : List Float} (q : Syntheses.Synthesised low high F a d out back o) (came : back ≡ synthesis.Done) where
+    pub rejoined : o ≡ thereAndBack binary64 F low high low high b line out
     rejoined = renewed _ _ (ap Syntheses.numberOf came) (q .joined) ∙ rw (approxed, detailed)
 
-    pub entries-restore : Cleared out → (z v : List ℤ) (A : ℕ) → Premises binary64 (bank .taps) (bank .low) (bank .high) line z v A → Restored (bank .border) (squares z) v o
+    pub entries-restore : Cleared out → (z v : List ℤ) (A : ℕ) → Premises binary64 F low high line z v A → Restored b (squares z) v o
     entries-restore clear z v A x =
-        let j = joinable (bank .taps) (length a) (length d) (length out) (sym (q .answer) ∙ came) in
-        let ruled : length out ≡ lineLength (pairs (length line) (bank .taps)) (bank .taps) = omega (arith, j .ruled, approx-length) in
-        subst (λ (l : List Float). Restored (bank .border) (squares z) v l) (sym rejoined)
-        (exact binary64 (bank .border) (bank .taps) (bank .low) (bank .high) line out z v A x clear ruled)
+        let j = joinable F (length a) (length d) (length out) (sym (q .answer) ∙ came) in
+        let ruled : length out ≡ lineLength (pairs (length line) F) F = omega (arith, j .ruled, approx-length) in
+        subst (λ (l : List Float). Restored b (squares z) v l) (sym rejoined)
+        (exact binary64 b F low high line out z v A x clear ruled)

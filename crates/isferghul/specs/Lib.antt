@@ -1,4 +1,7 @@
--- The interface for C. Definitions, what the exports promise that tell one entry's answer: Sizes, Levels, Planes. What the others promise stands with line_calls, level_calls and plane_calls.
+-- The interface for C. Definitions, what each export promises, which is what its entry does, told: Lines, Sizes, Levels, Planes. Laws: Telling, Unique.
+pub mod Lines
 pub mod Sizes
 pub mod Levels
 pub mod Planes
+pub mod Telling
+pub mod Unique

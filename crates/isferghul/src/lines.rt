@@ -1,6 +1,13 @@
 // One line, for C.
-ghost use Rattle.line_calls.specs.Lines.{AnalysisTold, SynthesisTold, ConvolutionTold};
-use line_calls::lines;
+ghost use Rattle.isferghul.specs.Lines.{AnalysisTold, SynthesisTold, ConvolutionTold};
+use analysis::lists::analyse;
+use bank::taps::taps_of;
+use convolution::convolve;
+use line_telling::told;
+use synthesis::lists::synthesise;
+use telling::borders::border_of;
+use telling::borders::no_border;
+use telling::told::one;
 
 #[no_mangle]
 pub extern "C" fn isferghul_analyse<'a>(
@@ -16,7 +23,13 @@ pub extern "C" fn isferghul_analyse<'a>(
     ensures { λ r. ⌜ AnalysisTold border (now (low .entry)) (now (high .entry)) (now (line .entry)) (now (approx .entry)) (now (detail .entry)) (now (scratch .entry)) (now (carried .entry))
         r (now (approx .exit)) (now (detail .exit)) (now (scratch .exit)) (now (carried .exit)) ⌝ }
 {
-    lines::analyse(border, low, high, line, approx, detail, scratch, carried)
+    if no_border(border) {
+        return one(26, border, carried);
+    }
+    let f = taps_of(low.len(), high.len());
+    let b = border_of(border);
+    let answer = analyse(low, high, f, b, line, approx, detail, scratch);
+    told::analysis(answer, carried)
 }
 
 // No border: synthesis reads none.
@@ -31,7 +44,9 @@ pub extern "C" fn isferghul_synthesise<'a>(
 ) -> u64
     ensures { λ r. ⌜ SynthesisTold (now (low .entry)) (now (high .entry)) (now (approx .entry)) (now (detail .entry)) (now (out .entry)) (now (carried .entry)) r (now (out .exit)) (now (carried .exit)) ⌝ }
 {
-    lines::synthesise(low, high, approx, detail, out, carried)
+    let f = taps_of(low.len(), high.len());
+    let answer = synthesise(low, high, f, approx, detail, out);
+    told::synthesis(answer, carried)
 }
 
 #[no_mangle]
@@ -47,5 +62,9 @@ pub extern "C" fn isferghul_convolve(
     ensures { λ r. ⌜ ConvolutionTold border (now (line .entry)) (now (out .entry)) (now (scratch .entry)) (now (kernel .entry)) centre (now (carried .entry))
         r (now (out .exit)) (now (scratch .exit)) (now (carried .exit)) ⌝ }
 {
-    lines::convolve(border, line, out, scratch, kernel, centre, carried)
+    if no_border(border) {
+        return one(26, border, carried);
+    }
+    let answer = convolve(border_of(border), line, out, scratch, kernel, centre);
+    told::convolution(answer, carried)
 }

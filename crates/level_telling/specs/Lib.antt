@@ -1,4 +1,3 @@
--- How answers about levels are told to C. Definitions: Readings. Laws: Telling, Unique.
+-- How answers about levels are told to C. Definitions: Readings. Laws: Telling.
 pub mod Readings
 pub mod Telling
-pub mod Unique

@@ -8,7 +8,7 @@ use lib.Dec.{ltb}
 use lib.ListN.{length}
 use lib.Ieee.{Float, binary64}
 use Rattle.numbers.specs.Words.{whenDone}
-use Rattle.bank.specs.declared.Bank.{Bank}
+use Rattle.border.specs.declared.Border.{Border}
 use Rattle.packed.specs.declared.Levels.{Levels}
 use Rattle.packed.specs.declared.Levels.the-variants.{Done, ScratchSize}
 use Rattle.packed.specs.Lengths.{levelsOf, levelsScratch}
@@ -19,7 +19,8 @@ use Rattle.levels.specs.Lines.{packedLine, paddedLines}
 unfoldable pub answerOf : ℕ → ℕ → ℕ → ℕ → ℕ → Levels
 answerOf n f levels p s = andThen (heldOf n f levels p) (cond (ltb s (levelsScratch n f)) (ScratchSize (levelsScratch n f) s) Done)
 
-pub record Analysed (bank : Bank) (line : List Float) (levels : ℕ) (packed scratch : List Float) (r : Levels) (packed′ scratch′ : List Float) : Type 0 where
-  pub answer : r ≡ answerOf (length line) (bank .taps) levels (length packed) (length scratch)
-  pub packs : packed′ ≡ whenDone (numberOf r) (packedLine binary64 (bank .low) (bank .high) (bank .taps) (bank .border) line (levelsOf levels)) packed
-  pub scratched : scratch′ ≡ whenDone (numberOf r) (paddedLines binary64 (bank .low) (bank .taps) (bank .border) line (levelsOf levels) scratch) scratch
+-- by the first f of either tap list, under a border: of a bank its arrays, count and border
+pub record Analysed (low high : List Float) (f : ℕ) (b : Border) (line : List Float) (levels : ℕ) (packed scratch : List Float) (r : Levels) (packed′ scratch′ : List Float) : Type 0 where
+  pub answer : r ≡ answerOf (length line) f levels (length packed) (length scratch)
+  pub packs : packed′ ≡ whenDone (numberOf r) (packedLine binary64 low high f b line (levelsOf levels)) packed
+  pub scratched : scratch′ ≡ whenDone (numberOf r) (paddedLines binary64 low f b line (levelsOf levels) scratch) scratch

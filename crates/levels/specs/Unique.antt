@@ -3,10 +3,10 @@ use mathlib.Core.Path.{_≡_, sym, _∙_}
 use mathlib.Core.List.{List}
 use Prim.Native.Nat.{ℕ}
 use lib.Ieee.{Float}
-use Rattle.bank.specs.declared.Bank.{Bank}
+use Rattle.border.specs.declared.Border.{Border}
 use Rattle.packed.specs.declared.Levels.{Levels}
 use Rattle.levels.specs.Analyses.{Analysed}
 
-pub unique-analyse-levels : {bank : Bank} {line : List Float} {levels : ℕ} {packed scratch : List Float} {r r′ : Levels} {p s p′ s′ : List Float}
-    → Analysed bank line levels packed scratch r p s → Analysed bank line levels packed scratch r′ p′ s′ → (r ≡ r′) × (p ≡ p′) × (s ≡ s′)
+pub unique-analyse-levels : {low high : List Float} {f : ℕ} {border : Border} {line : List Float} {levels : ℕ} {packed scratch : List Float} {r r′ : Levels} {p s p′ s′ : List Float}
+    → Analysed low high f border line levels packed scratch r p s → Analysed low high f border line levels packed scratch r′ p′ s′ → (r ≡ r′) × (p ≡ p′) × (s ≡ s′)
 unique-analyse-levels p q = let e = p .answer ∙ sym (q .answer) in (e, (cc), (cc))

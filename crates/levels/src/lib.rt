@@ -1,11 +1,10 @@
 // Analysis over levels: an upper crate over the line filter's promises.
+pub mod lists;
 pub mod work;
 
 ghost use mathlib.Core.Path.{_≡_};
 ghost use Rattle.levels.specs.Analyses.{answerOf, Analysed};
-use crate::work::split;
 use bank::Bank;
-use numbers::most;
 use packed::Levels;
 use packed::depth::scratch_need;
 use packed::packed_answer;
@@ -36,16 +35,11 @@ pub fn analyse_levels(
     packed: &mut [f64],
     scratch: &mut [f64],
 ) -> Levels
-    ensures { λ r. ⌜ Analysed bank (now (line .entry)) levels (now (packed .entry)) (now (scratch .entry)) r (now (packed .exit)) (now (scratch .exit)) ⌝ }
+    ensures { λ r. ⌜ Analysed (bank .low) (bank .high) (bank .taps) (bank .border) (now (line .entry)) levels (now (packed .entry)) (now (scratch .entry)) r (now (packed .exit)) (now (scratch .exit)) ⌝ }
 {
     let f = bank.taps;
-    let answer = levels_answer(line.len(), f, levels, packed.len(), scratch.len());
-    let Levels::Done = answer else {
-        return answer;
-    };
     let border = bank.border;
     let low = &bank.low;
     let high = &bank.high;
-    split(low, high, f, border, line, most(levels, 1), packed, scratch);
-    Levels::Done
+    lists::analyse_levels(low, high, f, border, line, levels, packed, scratch)
 }

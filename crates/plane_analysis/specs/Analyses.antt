@@ -7,7 +7,7 @@ use lib.Dec.{ltb}
 use lib.ListN.{length}
 use lib.Ieee.{Float, binary64}
 use Rattle.numbers.specs.Words.{whenDone}
-use Rattle.bank.specs.declared.Bank.{Bank}
+use Rattle.border.specs.declared.Border.{Border}
 use Rattle.planes.specs.declared.Planes.{Planes}
 use Rattle.planes.specs.declared.Planes.the-variants.{MinFilterSize}
 use Rattle.planes.specs.Lengths.{bandLength, planeScratch}
@@ -22,11 +22,11 @@ answerOf w h f p s ll lh hl hh =
     (cond (ltb h f) (MinFilterSize h f)
     (bandsOf (bandLength w h f) ll lh hl hh)))
 
--- LL and LH come from the row approximations, HL and HH from the row details
-pub record Analysed (bank : Bank) (plane : List Float) (w h : ℕ) (ll lh hl hh scratch : List Float) (r : Planes) (ll′ lh′ hl′ hh′ scratch′ : List Float) : Type 0 where
-  pub answer : r ≡ answerOf w h (bank .taps) (length plane) (length scratch) (length ll) (length lh) (length hl) (length hh)
-  pub lls : ll′ ≡ whenDone (numberOf r) (planeBand binary64 (bank .low) (bank .low) (bank .taps) (bank .border) plane w h) ll
-  pub lhs : lh′ ≡ whenDone (numberOf r) (planeBand binary64 (bank .low) (bank .high) (bank .taps) (bank .border) plane w h) lh
-  pub hls : hl′ ≡ whenDone (numberOf r) (planeBand binary64 (bank .high) (bank .low) (bank .taps) (bank .border) plane w h) hl
-  pub hhs : hh′ ≡ whenDone (numberOf r) (planeBand binary64 (bank .high) (bank .high) (bank .taps) (bank .border) plane w h) hh
-  pub scratched : Scratched (numberOf r) (planeScratch w h (bank .taps)) scratch scratch′
+-- by the first f of either tap list, under a border: of a bank its arrays, count and border; LL and LH come from the row approximations, HL and HH from the row details
+pub record Analysed (low high : List Float) (f : ℕ) (b : Border) (plane : List Float) (w h : ℕ) (ll lh hl hh scratch : List Float) (r : Planes) (ll′ lh′ hl′ hh′ scratch′ : List Float) : Type 0 where
+  pub answer : r ≡ answerOf w h f (length plane) (length scratch) (length ll) (length lh) (length hl) (length hh)
+  pub lls : ll′ ≡ whenDone (numberOf r) (planeBand binary64 low low f b plane w h) ll
+  pub lhs : lh′ ≡ whenDone (numberOf r) (planeBand binary64 low high f b plane w h) lh
+  pub hls : hl′ ≡ whenDone (numberOf r) (planeBand binary64 high low f b plane w h) hl
+  pub hhs : hh′ ≡ whenDone (numberOf r) (planeBand binary64 high high f b plane w h) hh
+  pub scratched : Scratched (numberOf r) (planeScratch w h f) scratch scratch′

@@ -4,18 +4,18 @@ use mathlib.Core.List.{List}
 use Prim.Native.Nat.{ℕ, _<_}
 use lib.ListN.{length, drop}
 use lib.Ieee.{Float}
-use Rattle.bank.specs.declared.Bank.{Bank}
+use Rattle.border.specs.declared.Border.{Border}
 use Rattle.planes.specs.declared.Planes.{Planes}
 use Rattle.planes.specs.Lengths.{planeScratch}
 use Rattle.planes.specs.Answers.{numberOf, Scratched}
 use Rattle.planes.specs.Unique.{unique-scratch}
 use Rattle.plane_analysis.specs.Analyses.{Analysed}
 
-pub unique-analyse-plane : {bank : Bank} {plane : List Float} {w h : ℕ} {ll lh hl hh scratch : List Float} {r r′ : Planes} {a b c d s a′ b′ c′ d′ s′ : List Float}
-    → Analysed bank plane w h ll lh hl hh scratch r a b c d s → Analysed bank plane w h ll lh hl hh scratch r′ a′ b′ c′ d′ s′
+pub unique-analyse-plane : {low high : List Float} {f : ℕ} {border : Border} {plane : List Float} {w h : ℕ} {ll lh hl hh scratch : List Float} {r r′ : Planes} {a b c d s a′ b′ c′ d′ s′ : List Float}
+    → Analysed low high f border plane w h ll lh hl hh scratch r a b c d s → Analysed low high f border plane w h ll lh hl hh scratch r′ a′ b′ c′ d′ s′
     → (r ≡ r′) × (a ≡ a′) × (b ≡ b′) × (c ≡ c′) × (d ≡ d′)
-    × (0 < numberOf r → s ≡ s′) × (length s ≡ length s′) × (drop (planeScratch w h (bank .taps)) s ≡ drop (planeScratch w h (bank .taps)) s′)
-unique-analyse-plane {bank} {plane} {w} {h} {ll} {lh} {hl} {hh} {scratch} {r} {r′} {s′ = s′} p q =
+    × (0 < numberOf r → s ≡ s′) × (length s ≡ length s′) × (drop (planeScratch w h f) s ≡ drop (planeScratch w h f) s′)
+unique-analyse-plane {f = f} {w = w} {h} {scratch = scratch} {s′ = s′} p q =
     let e = p .answer ∙ sym (q .answer) in
-    let u = unique-scratch (p .scratched) (subst (λ (a : Planes). Scratched (numberOf a) (planeScratch w h (bank .taps)) scratch s′) (sym e) (q .scratched)) in
+    let u = unique-scratch (p .scratched) (subst (λ (a : Planes). Scratched (numberOf a) (planeScratch w h f) scratch s′) (sym e) (q .scratched)) in
     (e, (cc), (cc), (cc), (cc), u .0, u .1, u .2)

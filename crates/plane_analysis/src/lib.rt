@@ -1,9 +1,9 @@
 // Analysis of a plane: an upper crate over the line filter's promises.
+pub mod lists;
 pub mod work;
 
 ghost use mathlib.Core.Path.{_≡_};
 ghost use Rattle.plane_analysis.specs.Analyses.{answerOf, Analysed};
-use crate::work::split_plane;
 use bank::Bank;
 use planes::Planes;
 use planes::bands_answer;
@@ -49,27 +49,12 @@ pub fn analyse_plane(
     hh: &mut [f64],
     scratch: &mut [f64],
 ) -> Planes
-    ensures { λ r. ⌜ Analysed bank (now (plane .entry)) w h (now (ll .entry)) (now (lh .entry)) (now (hl .entry)) (now (hh .entry)) (now (scratch .entry))
+    ensures { λ r. ⌜ Analysed (bank .low) (bank .high) (bank .taps) (bank .border) (now (plane .entry)) w h (now (ll .entry)) (now (lh .entry)) (now (hl .entry)) (now (hh .entry)) (now (scratch .entry))
         r (now (ll .exit)) (now (lh .exit)) (now (hl .exit)) (now (hh .exit)) (now (scratch .exit)) ⌝ }
 {
     let f = bank.taps;
-    let answer = plane_analysis_answer(
-        w,
-        h,
-        f,
-        plane.len(),
-        scratch.len(),
-        ll.len(),
-        lh.len(),
-        hl.len(),
-        hh.len(),
-    );
-    let Planes::Done = answer else {
-        return answer;
-    };
     let border = bank.border;
     let low = &bank.low;
     let high = &bank.high;
-    split_plane(low, high, f, border, plane, w, h, ll, lh, hl, hh, scratch);
-    Planes::Done
+    lists::analyse_plane(low, high, f, border, plane, w, h, ll, lh, hl, hh, scratch)
 }

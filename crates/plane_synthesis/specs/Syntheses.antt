@@ -7,7 +7,6 @@ use lib.Dec.{eqb}
 use lib.ListN.{length}
 use lib.Ieee.{Float, binary64}
 use Rattle.numbers.specs.Words.{whenDone}
-use Rattle.bank.specs.declared.Bank.{Bank}
 use Rattle.bank.specs.Lengths.{pairs, lineLength}
 use Rattle.planes.specs.declared.Planes.{Planes}
 use Rattle.planes.specs.declared.Planes.the-variants.{Done, OutputSizeIsNotValid}
@@ -26,7 +25,8 @@ sidesOf w h f =
 unfoldable pub answerOf : ℕ → ℕ → ℕ → ℕ → ℕ → ℕ → ℕ → ℕ → ℕ → Planes
 answerOf w h f p s ll lh hl hh = andThen (andThen (heldOf w h f p s) (bandsOf (bandLength w h f) ll lh hl hh)) (sidesOf w h f)
 
-pub record Synthesised (bank : Bank) (ll lh hl hh : List Float) (w h : ℕ) (plane scratch : List Float) (r : Planes) (plane′ scratch′ : List Float) : Type 0 where
-  pub answer : r ≡ answerOf w h (bank .taps) (length plane) (length scratch) (length ll) (length lh) (length hl) (length hh)
-  pub joined : plane′ ≡ whenDone (numberOf r) (planeJoined binary64 (bank .taps) (bank .low) (bank .high) w h ll lh hl hh) plane
-  pub scratched : Scratched (numberOf r) (planeScratch w h (bank .taps)) scratch scratch′
+-- by the first f of either tap list: of a bank its arrays and count
+pub record Synthesised (low high : List Float) (f : ℕ) (ll lh hl hh : List Float) (w h : ℕ) (plane scratch : List Float) (r : Planes) (plane′ scratch′ : List Float) : Type 0 where
+  pub answer : r ≡ answerOf w h f (length plane) (length scratch) (length ll) (length lh) (length hl) (length hh)
+  pub joined : plane′ ≡ whenDone (numberOf r) (planeJoined binary64 f low high w h ll lh hl hh) plane
+  pub scratched : Scratched (numberOf r) (planeScratch w h f) scratch scratch′

@@ -1,10 +1,10 @@
 // Synthesis of a plane: an upper crate over the line filter's promises.
+pub mod lists;
 pub mod work;
 
 ghost use mathlib.Core.Path.{_≡_};
 ghost use Rattle.plane_synthesis.specs.Syntheses.{sidesOf, answerOf, Synthesised};
 ghost use Rattle.planes.specs.Works.{Sided};
-use crate::work::join_plane;
 use bank::Bank;
 use planes::Planes;
 use planes::bands_answer;
@@ -70,26 +70,11 @@ pub fn synthesise_plane(
     plane: &mut [f64],
     scratch: &mut [f64],
 ) -> Planes
-    ensures { λ r. ⌜ Synthesised bank (now (ll .entry)) (now (lh .entry)) (now (hl .entry)) (now (hh .entry)) w h (now (plane .entry)) (now (scratch .entry))
+    ensures { λ r. ⌜ Synthesised (bank .low) (bank .high) (bank .taps) (now (ll .entry)) (now (lh .entry)) (now (hl .entry)) (now (hh .entry)) w h (now (plane .entry)) (now (scratch .entry))
         r (now (plane .exit)) (now (scratch .exit)) ⌝ }
 {
     let f = bank.taps;
-    let answer = plane_synthesis_answer(
-        w,
-        h,
-        f,
-        plane.len(),
-        scratch.len(),
-        ll.len(),
-        lh.len(),
-        hl.len(),
-        hh.len(),
-    );
-    let Planes::Done = answer else {
-        return answer;
-    };
     let low = &bank.low;
     let high = &bank.high;
-    join_plane(low, high, f, ll, lh, hl, hh, w, h, plane, scratch);
-    Planes::Done
+    lists::synthesise_plane(low, high, f, ll, lh, hl, hh, w, h, plane, scratch)
 }

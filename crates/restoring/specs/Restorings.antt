@@ -8,7 +8,6 @@ use lib.Dec.{ltb}
 use lib.ListN.{length}
 use lib.Ieee.{Float, binary64}
 use Rattle.numbers.specs.Words.{whenDone}
-use Rattle.bank.specs.declared.Bank.{Bank}
 use Rattle.packed.specs.declared.Levels.{Levels}
 use Rattle.packed.specs.declared.Levels.the-variants.{Done, ScratchSize}
 use Rattle.packed.specs.Lengths.{levelsOf, restoringLength}
@@ -23,12 +22,13 @@ answerOf n f levels p a b =
     (cond (ltb b (restoringLength n f)) (ScratchSize (restoringLength n f) b)
     Done))
 
-pub record Restored (bank : Bank) (packed : List Float) (n levels : ℕ) (first second : List Float) (r : Levels) (first′ second′ : List Float) : Type 0 where
-  pub answer : r ≡ answerOf n (bank .taps) levels (length packed) (length first) (length second)
-  pub firsts : first′ ≡ whenDone (numberOf r) (firstAfter binary64 (bank .taps) (bank .low) (bank .high) packed n (levelsOf levels) (levelsOf levels) first) first
-  pub seconds : second′ ≡ whenDone (numberOf r) (secondAfter binary64 (bank .taps) (bank .low) (bank .high) packed n (levelsOf levels) (levelsOf levels) second) second
+-- by the first f of either tap list: of a bank its arrays and count
+pub record Restored (low high : List Float) (f : ℕ) (packed : List Float) (n levels : ℕ) (first second : List Float) (r : Levels) (first′ second′ : List Float) : Type 0 where
+  pub answer : r ≡ answerOf n f levels (length packed) (length first) (length second)
+  pub firsts : first′ ≡ whenDone (numberOf r) (firstAfter binary64 f low high packed n (levelsOf levels) (levelsOf levels) first) first
+  pub seconds : second′ ≡ whenDone (numberOf r) (secondAfter binary64 f low high packed n (levelsOf levels) (levelsOf levels) second) second
 
 -- the line, and the empty part on a refusal
-pub record HandedOut (bank : Bank) (packed : List Float) (n levels : ℕ) (first second part : List Float) : Type 0 where
-  pub handed : part ≡ whenDone (numberOf (answerOf n (bank .taps) levels (length packed) (length first) (length second)))
-      (restored binary64 (bank .taps) (bank .low) (bank .high) packed n (levelsOf levels)) []
+pub record HandedOut (low high : List Float) (f : ℕ) (packed : List Float) (n levels : ℕ) (first second part : List Float) : Type 0 where
+  pub handed : part ≡ whenDone (numberOf (answerOf n f levels (length packed) (length first) (length second)))
+      (restored binary64 f low high packed n (levelsOf levels)) []

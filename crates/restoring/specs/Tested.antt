@@ -9,7 +9,6 @@ use lib.ListN.{length, take}
 use lib.Ieee.{Float, Format, binary64}
 use Rattle.numbers.specs.Words.{whenDone}
 use Rattle.numbers.specs.Tests.{passed, refused, kept, renewed, cond-true, cond-false}
-use Rattle.bank.specs.declared.Bank.{Bank}
 use Rattle.bank.specs.Lengths.{lineLength}
 use Rattle.packed.specs.declared.Levels.{Levels}
 use Rattle.packed.specs.declared.Levels.the-variants.{Done}
@@ -43,32 +42,32 @@ length-restored g low high packed n F (suc j) p a b w e =
     ∙ ap (λ (m : ℕ). lineLength m F) (length-part n F (suc j) 1 packed (w .packs .sound .taps .two) (omega arith) (e ∙ whole-length (w .packs)))
 
 -- ---- the part handed out: none on a refusal, else the front of the buffer that holds the line
-pub none-handed : {bank : Bank} {packed : List Float} {n levels : ℕ} {first second : List Float} (r : Levels)
-    → r ≡ answerOf n (bank .taps) levels (length packed) (length first) (length second) → (r ≡ Done → ⊥) → HandedOut bank packed n levels first second []
+pub none-handed : {low high : List Float} {f : ℕ} {packed : List Float} {n levels : ℕ} {first second : List Float} (r : Levels)
+    → r ≡ answerOf n f levels (length packed) (length first) (length second) → (r ≡ Done → ⊥) → HandedOut low high f packed n levels first second []
 none-handed r e h = record { handed = kept _ (refused numberOf done-alone _ (λ q. h (e ∙ q))) _ [] }
 
-module _ (bank : Bank) (packed : List Float) (n levels : ℕ) (first second first′ second′ : List Float) (r : Levels) (k m : ℕ)
-    (p : Restored bank packed n levels first second r first′ second′) (done : r ≡ Done) (count : k ≡ levelsOf levels) (long : m ≡ restoringLength n (bank .taps)) where
-  all : Restoring n (bank .taps) (levelsOf levels) (length packed) (length first) (length second)
-  all = restoring n (bank .taps) levels (levelsOf levels) (length packed) (length first) (length second) refl (sym (p .answer) ∙ done)
+module _ (low high : List Float) (f : ℕ) (packed : List Float) (n levels : ℕ) (first second first′ second′ : List Float) (r : Levels) (k m : ℕ)
+    (p : Restored low high f packed n levels first second r first′ second′) (done : r ≡ Done) (count : k ≡ levelsOf levels) (long : m ≡ restoringLength n f) where
+  all : Restoring n f (levelsOf levels) (length packed) (length first) (length second)
+  all = restoring n f levels (levelsOf levels) (length packed) (length first) (length second) refl (sym (p .answer) ∙ done)
 
   abbrev line : List Float
-  line = restored binary64 (bank .taps) (bank .low) (bank .high) packed n (levelsOf levels)
+  line = restored binary64 f low high packed n (levelsOf levels)
 
-  as-handed : {part : List Float} → part ≡ line → HandedOut bank packed n levels first second part
+  as-handed : {part : List Float} → part ≡ line → HandedOut low high f packed n levels first second part
   as-handed e = record { handed = e ∙ sym (ap (λ (a : Levels). whenDone (numberOf a) line []) (sym (p .answer) ∙ done)) }
 
   length-line : m ≡ length line
-  length-line = long ∙ sym (length-restored binary64 (bank .low) (bank .high) packed n (bank .taps) (levelsOf levels) _ _ _ all refl)
+  length-line = long ∙ sym (length-restored binary64 low high packed n f (levelsOf levels) _ _ _ all refl)
 
-  pub second-handed : k % 2 ≡ 0 → HandedOut bank packed n levels first second (take m second′)
+  pub second-handed : k % 2 ≡ 0 → HandedOut low high f packed n levels first second (take m second′)
   second-handed e =
       as-handed
       (ap (take m) (renewed _ second (ap numberOf done) (p .seconds) ∙ sym (cond-true (eqb (levelsOf levels % 2) 0) _ _ (eq-eqb (levelsOf levels % 2) 0 (ap (λ (j : ℕ). j % 2) (sym count) ∙ e))))
-      ∙ whole-front binary64 (bank .taps) (bank .low) (bank .high) packed n (levelsOf levels) m first second (all .packs .some) length-line)
+      ∙ whole-front binary64 f low high packed n (levelsOf levels) m first second (all .packs .some) length-line)
 
-  pub first-handed : (k % 2 ≡ 0 → ⊥) → HandedOut bank packed n levels first second (take m first′)
+  pub first-handed : (k % 2 ≡ 0 → ⊥) → HandedOut low high f packed n levels first second (take m first′)
   first-handed h =
       as-handed
       (ap (take m) (renewed _ first (ap numberOf done) (p .firsts) ∙ sym (cond-false (eqb (levelsOf levels % 2) 0) _ _ (ne-eqb (levelsOf levels % 2) 0 (λ e. h (ap (λ (j : ℕ). j % 2) count ∙ e)))))
-      ∙ whole-front binary64 (bank .taps) (bank .low) (bank .high) packed n (levelsOf levels) m first second (all .packs .some) length-line)
+      ∙ whole-front binary64 f low high packed n (levelsOf levels) m first second (all .packs .some) length-line)

@@ -1,9 +1,9 @@
 // Restoring several levels between two lent buffers: an upper crate over the line filter's promises.
+pub mod lists;
 pub mod work;
 
 ghost use mathlib.Core.Path.{_≡_};
 ghost use Rattle.restoring.specs.Restorings.{answerOf, Restored, HandedOut};
-use crate::work::restore;
 use bank::Bank;
 use numbers::most;
 use packed::Levels;
@@ -44,17 +44,12 @@ pub fn restore_levels(
     first: &mut [f64],
     second: &mut [f64],
 ) -> Levels
-    ensures { λ r. ⌜ Restored bank (now (packed .entry)) n levels (now (first .entry)) (now (second .entry)) r (now (first .exit)) (now (second .exit)) ⌝ }
+    ensures { λ r. ⌜ Restored (bank .low) (bank .high) (bank .taps) (now (packed .entry)) n levels (now (first .entry)) (now (second .entry)) r (now (first .exit)) (now (second .exit)) ⌝ }
 {
     let f = bank.taps;
-    let answer = restoring_answer(n, f, levels, packed.len(), first.len(), second.len());
-    let Levels::Done = answer else {
-        return answer;
-    };
     let low = &bank.low;
     let high = &bank.high;
-    restore(low, high, f, packed, n, most(levels, 1), first, second);
-    Levels::Done
+    lists::restore_levels(low, high, f, packed, n, levels, first, second)
 }
 
 // The same, answered with the line itself, the front of the buffer that holds it; the empty part where `restoring_answer` refuses.
@@ -66,7 +61,7 @@ pub fn restored_line<'a>(
     first: &'a mut [f64],
     second: &'a mut [f64],
 ) -> &'a mut [f64]
-    ensures { λ r. ⌜ HandedOut bank (now (packed .entry)) n levels (now (first .entry)) (now (second .entry)) (now r) ⌝ }
+    ensures { λ r. ⌜ HandedOut (bank .low) (bank .high) (bank .taps) (now (packed .entry)) n levels (now (first .entry)) (now (second .entry)) (now r) ⌝ }
 {
     let f = bank.taps;
     let answer = restore_levels(bank, packed, n, levels, first, second);

@@ -7,7 +7,6 @@ use lib.Dec.{ltb, leb, eqb}
 use lib.ListN.{length}
 use lib.Ieee.{Float, binary64}
 use Rattle.numbers.specs.Words.{longest, whenDone}
-use Rattle.bank.specs.declared.Bank.{Bank}
 use Rattle.synthesis.specs.declared.Synthesis.{Synthesis}
 use Rattle.synthesis.specs.declared.Synthesis.the-variants.{Done, ApproxDetailsNotMatches, OutputSizeIsNotValid, ZeroedBaseSize, Limit, Taps}
 use Rattle.synthesis.specs.Lines.{synthesised}
@@ -40,6 +39,7 @@ answerOf f a d o =
     (cond (not (eqb o (lineLength a f))) (OutputSizeIsNotValid o (lineLength a f))
     Done))))
 
-pub record Synthesised (bank : Bank) (approx detail out : List Float) (r : Synthesis) (out′ : List Float) : Type 0 where
-  pub answer : r ≡ answerOf (bank .taps) (length approx) (length detail) (length out)
-  pub joined : out′ ≡ whenDone (numberOf r) (synthesised binary64 (bank .taps) (bank .low) (bank .high) approx detail out) out
+-- by the first f of either tap list: of a bank its arrays and count
+pub record Synthesised (low high : List Float) (f : ℕ) (approx detail out : List Float) (r : Synthesis) (out′ : List Float) : Type 0 where
+  pub answer : r ≡ answerOf f (length approx) (length detail) (length out)
+  pub joined : out′ ≡ whenDone (numberOf r) (synthesised binary64 f low high approx detail out) out

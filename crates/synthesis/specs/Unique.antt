@@ -1,11 +1,11 @@
 -- Laws of what the entries promise: any two outcomes that a promise admits are equal, since each is an equation of the answer and of every lent buffer.
 use mathlib.Core.Path.{_≡_, sym, _∙_}
 use mathlib.Core.List.{List}
+use Prim.Native.Nat.{ℕ}
 use lib.Ieee.{Float}
-use Rattle.bank.specs.declared.Bank.{Bank}
 use Rattle.synthesis.specs.declared.Synthesis.{Synthesis}
 use Rattle.synthesis.specs.Syntheses.{Synthesised}
 
-pub unique-synthesise : {bank : Bank} {approx detail out : List Float} {r r′ : Synthesis} {o o′ : List Float}
-    → Synthesised bank approx detail out r o → Synthesised bank approx detail out r′ o′ → (r ≡ r′) × (o ≡ o′)
+pub unique-synthesise : {low high : List Float} {f : ℕ} {approx detail out : List Float} {r r′ : Synthesis} {o o′ : List Float}
+    → Synthesised low high f approx detail out r o → Synthesised low high f approx detail out r′ o′ → (r ≡ r′) × (o ≡ o′)
 unique-synthesise p q = let e = p .answer ∙ sym (q .answer) in (e, (cc))

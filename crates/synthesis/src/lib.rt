@@ -1,9 +1,9 @@
 // Synthesis of one line.
+pub mod lists;
 pub mod work;
 
 ghost use mathlib.Core.Path.{_≡_};
 ghost use Rattle.synthesis.specs.Syntheses.{answerOf, Synthesised};
-use crate::work::join;
 use bank::Bank;
 use bank::sizes::bad_taps;
 use numbers::LONGEST;
@@ -45,15 +45,10 @@ pub fn synthesis_answer(f: usize, approx: usize, detail: usize, out: usize) -> S
 
 // Both bands joined onto what the output held.
 pub fn synthesise(bank: Bank, approx: &[f64], detail: &[f64], out: &mut [f64]) -> Synthesis
-    ensures { λ r. ⌜ Synthesised bank (now (approx .entry)) (now (detail .entry)) (now (out .entry)) r (now (out .exit)) ⌝ }
+    ensures { λ r. ⌜ Synthesised (bank .low) (bank .high) (bank .taps) (now (approx .entry)) (now (detail .entry)) (now (out .entry)) r (now (out .exit)) ⌝ }
 {
     let f = bank.taps;
-    let answer = synthesis_answer(f, approx.len(), detail.len(), out.len());
-    let Synthesis::Done = answer else {
-        return answer;
-    };
     let low = &bank.low;
     let high = &bank.high;
-    join(low, high, f, approx, detail, out);
-    Synthesis::Done
+    lists::synthesise(low, high, f, approx, detail, out)
 }

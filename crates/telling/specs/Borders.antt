@@ -1,10 +1,12 @@
 -- Borders by number, and the refusal of a number that names none. Definitions only.
-use mathlib.Core.Bool.{Bool, cond}
+use mathlib.Core.Path.{_≡_}
+use mathlib.Core.Bool.{Bool, cond, true, false}
 use mathlib.Core.List.{List, [], _∷_}
 use Prim.Native.Nat.{ℕ}
 use lib.Dec.{ltb, eqb}
 use Rattle.border.specs.declared.Border.{Border}
 use Rattle.border.specs.declared.Border.the-variants.{Clamp, Wrap, Reflect, Zeros, Reflect101}
+use Rattle.telling.specs.Told.{Told, ToldOf}
 
 -- document 01's order
 unfoldable pub borderOf : ℕ → Border
@@ -18,9 +20,7 @@ borderOf k =
 abbrev pub noBorder : ℕ → Bool
 noBorder k = ltb 4 k
 
--- 26, which carries the number, comes before an answer's own number and values
-abbrev pub numberUnder : ℕ → ℕ → ℕ
-numberUnder border number = cond (noBorder border) 26 number
-
-abbrev pub valuesUnder : ℕ → List ℕ → List ℕ
-valuesUnder border values = cond (noBorder border) (border ∷ []) values
+-- the same under a border that is told by number; where the number names none it is 26, which carries it, and nothing that was lent has changed
+pub record ToldUnder (border : ℕ) {A : Type 0} (number : A → ℕ) (values : A → List ℕ) (promise : Border → A → Type 0) (unchanged : Type 0) (words : List ℕ) (r : ℕ) (words′ : List ℕ) : Type 0 where
+  pub known : noBorder border ≡ false → ToldOf number values (promise (borderOf border)) words r words′
+  pub unknown : noBorder border ≡ true → Told 26 (border ∷ []) words r words′ × unchanged

@@ -13,3 +13,9 @@ carriedFrom k (value ∷ values) words = carriedFrom (suc k) values (set words k
 pub record Told (number : ℕ) (values words : List ℕ) (r : ℕ) (words′ : List ℕ) : Type 0 where
   pub given : r ≡ number
   pub carried : words′ ≡ carriedFrom 0 values words
+
+-- what an entry promises of its answer, told: the number and the values are those of an answer that the promise admits
+pub record ToldOf {A : Type 0} (number : A → ℕ) (values : A → List ℕ) (promise : A → Type 0) (words : List ℕ) (r : ℕ) (words′ : List ℕ) : Type 0 where
+  pub answer : A
+  pub promised : promise answer
+  pub told : Told (number answer) (values answer) words r words′

@@ -1,33 +1,11 @@
--- `analysis::analyse` meets its contract. Where the answer is done every test passed, which gives the work what it asks for; on any other answer nothing was written.
+-- `analysis::analyse` meets its contract: it is that of its lists, which are a bank's arrays with their count.
 use borrow.Author.Needs.{needs}
-use denote.Enum.Declared.{tagOf, declared}
-use Rattle.analysis.specs.Analyses.{numberOf}
-use Rattle.analysis.proofs.Analysis.{enum}
 use Rattle.analysis.proofs.analyse.Statement.{statement}
 use Rattle.analysis.proofs.analyse.Tie as tie
-use Rattle.bank.specs.Tested.{lent-all}
-use Rattle.analysis.specs.Tested.{analysing, done-alone}
-use Rattle.numbers.specs.Tests.{kept, key-above, other, refused}
-use lib.Dec.{lit<}
-use mathlib.Core.Path.{_∙_, refl, sym}
+use Rattle.bank.specs.Tested.{counted-all}
 
-analysis-answer-requires : tie.Need-analysis-answer-requires
-analysis-answer-requires c κs = search needs
-
-enum-told : tie.Need-enum-told
-enum-told c = search needs
-
-returns : tie.Need-returns
-returns c = let r = c .before .analysis-answer .result in
-    let z = refused numberOf done-alone r (other (tagOf (declared enum)) r refl (key-above 4 1 _ (lit< tt) (c .match .keys2))) in
-    record { answer = c .before .analysis-answer .ensures; approxes = kept (numberOf r) z _ _; details = kept (numberOf r) z _ _; scratched = kept (numberOf r) z _ _ }
-
-line-bands-requires : tie.Need-line-bands-requires
-line-bands-requires c κs = let h = c .before .before .before in
-    let l = h .before in
-    let e = l .before .before .before .before in
-    let p = analysing _ _ _ _ _ (sym (e .before .before .analysis-answer .ensures) ∙ e .enum-told .given .1) in
-    (lent-all (p .ready .taps .most) (l .line-bands-arg .given .0) (h .line-bands-arg2 .given .0), p)
+analyse-requires : tie.Need-analyse-requires
+analyse-requires c κs = let h = c .before .before .before in counted-all (h .before .analyse-arg .given .0) (h .analyse-arg2 .given .0)
 
 same-length : tie.Need-same-length
 same-length c = search needs
@@ -38,25 +16,8 @@ same-length-2 c = search needs
 same-length-3 : tie.Need-same-length-3
 same-length-3 c = search needs
 
-returns-2 : tie.Need-returns-2
-returns-2 c = let w = c .before .before .before .before .before .before in
-    let e = w .before .before .before .before .before .before .before .before .before in
-    record {
-      answer = sym (e .enum-told .given .1) ∙ e .before .before .analysis-answer .ensures;
-      approxes = w .line-bands .ensures .0;
-      details = w .line-bands .ensures .1;
-      scratched = w .line-bands .ensures .2;
-    }
+returns : tie.Need-returns
+returns c = c .before .before .before .before .before .before .analyse .ensures
 
 pub analyse-spec : {M : Type 1} → statement M
-analyse-spec =
-    tie.close
-    (tie.spec
-    analysis-answer-requires
-    enum-told
-    returns
-    line-bands-requires
-    same-length
-    same-length-2
-    same-length-3
-    returns-2)
+analyse-spec = tie.close (tie.spec analyse-requires same-length same-length-2 same-length-3 returns)

@@ -1,43 +1,11 @@
--- `levels::analyse_levels` meets its contract. Where the answer is done every test passed, which gives the work what it asks for; on any other answer nothing was written.
+-- `levels::analyse_levels` meets its contract: it is that of its lists, which are a bank's arrays with their count.
 use borrow.Author.Needs.{needs}
-use denote.Enum.Declared.{tagOf, declared}
-use denote.Ref.{now}
-use Prim.Native.Nat.{ℕ}
-use Rattle.levels.specs.Lines.{packedLine, paddedLines}
-use Rattle.bank.specs.Tested.{lent-all}
-use Rattle.levels.specs.Tested.{splitting}
+use Rattle.bank.specs.Tested.{counted-all}
 use Rattle.levels.proofs.analyse_levels.Statement.{statement}
 use Rattle.levels.proofs.analyse_levels.Tie as tie
-use Rattle.numbers.specs.Tests.{kept, key-above, other, refused}
-use Rattle.packed.proofs.Levels.{enum}
-use Rattle.packed.specs.Answers.{numberOf}
-use Rattle.packed.specs.Tested.{done-alone}
-use lib.Dec.{lit<}
-use lib.Ieee.{binary64}
-use mathlib.Core.Path.{_∙_, ap, refl, sym}
 
-levels-answer-requires : tie.Need-levels-answer-requires
-levels-answer-requires c κs = search needs
-
-enum-told : tie.Need-enum-told
-enum-told c = search needs
-
-returns : tie.Need-returns
-returns c = let r = c .before .levels-answer .result in
-    let z = refused numberOf done-alone r (other (tagOf (declared enum)) r refl (key-above 5 1 _ (lit< tt) (c .match .keys2))) in
-    record { answer = c .before .levels-answer .ensures; packs = kept (numberOf r) z _ _; scratched = kept (numberOf r) z _ _ }
-
-most-requires : tie.Need-most-requires
-most-requires c κs = search needs
-
-split-requires : tie.Need-split-requires
-split-requires c κs =
-    let m = c .before .before in
-    let h = m .before in
-    let l = h .before in
-    let e = l .before .before .before .before in
-    let p = splitting _ _ _ _ _ _ (m .most .ensures) (sym (e .before .before .levels-answer .ensures) ∙ e .enum-told .given .1) in
-    (lent-all (p .packs .sound .taps .most) (l .split-arg .given .0) (h .split-arg2 .given .0), p)
+analyse-levels-requires : tie.Need-analyse-levels-requires
+analyse-levels-requires c κs = let h = c .before .before in counted-all (h .before .analyse-levels-arg .given .0) (h .analyse-levels-arg2 .given .0)
 
 same-length : tie.Need-same-length
 same-length c = search needs
@@ -45,17 +13,8 @@ same-length c = search needs
 same-length-2 : tie.Need-same-length-2
 same-length-2 c = search needs
 
-returns-2 : tie.Need-returns-2
-returns-2 c =
-    let w = c .before .before .before .before in
-    let m = w .before .before .before in
-    let e = m .before .before .before .before .before .before in
-    let a = e .before .before .before .before .before .before .args in
-    record {
-      answer = sym (e .enum-told .given .1) ∙ e .before .before .levels-answer .ensures;
-      packs = w .split .ensures .0 ∙ ap (packedLine binary64 (a .t1 .low) (a .t1 .high) (a .t1 .taps) (a .t1 .border) (now (a .line))) (m .most .ensures);
-      scratched = w .split .ensures .1 ∙ ap (λ (k : ℕ). paddedLines binary64 (a .t1 .low) (a .t1 .taps) (a .t1 .border) (now (a .line)) k (now (a .scratch))) (m .most .ensures);
-    }
+returns : tie.Need-returns
+returns c = c .before .before .before .before .analyse-levels .ensures
 
 pub analyse-levels-spec : {M : Type 1} → statement M
-analyse-levels-spec = tie.close (tie.spec levels-answer-requires enum-told returns most-requires split-requires same-length same-length-2 returns-2)
+analyse-levels-spec = tie.close (tie.spec analyse-levels-requires same-length same-length-2 returns)

@@ -1,44 +1,11 @@
--- `plane_analysis::analyse_plane` meets its contract. Where the answer is done every test passed, which gives the work what it asks for; on any other answer nothing was written.
+-- `plane_analysis::analyse_plane` meets its contract: it is that of its lists, which are a bank's arrays with their count.
 use borrow.Author.Needs.{needs}
-use denote.Enum.Declared.{tagOf, declared}
-use lib.Dec.{lit<}
-use native.Mathlib.Omega.{arith}
-use mathlib.Core.Path.{_∙_, refl, sym}
-use Rattle.numbers.specs.Tests.{key-above, other, refused, kept}
-use Rattle.planes.proofs.Planes.{enum}
-use Rattle.planes.specs.Answers.{numberOf}
-use Rattle.planes.specs.Tested.{done-alone, untouched, touched}
-use Rattle.bank.specs.Tested.{lent-all}
-use Rattle.plane_analysis.specs.Tested.{analysing}
+use Rattle.bank.specs.Tested.{counted-all}
 use Rattle.plane_analysis.proofs.analyse_plane.Statement.{statement}
 use Rattle.plane_analysis.proofs.analyse_plane.Tie as tie
 
-plane-analysis-answer-requires : tie.Need-plane-analysis-answer-requires
-plane-analysis-answer-requires c κs = search needs
-
-enum-told : tie.Need-enum-told
-enum-told c = search needs
-
-returns : tie.Need-returns
-returns c =
-    let r = c .before .plane-analysis-answer .result in
-    let z = refused numberOf done-alone r (other (tagOf (declared enum)) r refl (key-above 6 1 _ (lit< tt) (c .match .keys2))) in
-    record {
-      answer = c .before .plane-analysis-answer .ensures;
-      lls = kept (numberOf r) z _ _;
-      lhs = kept (numberOf r) z _ _;
-      hls = kept (numberOf r) z _ _;
-      hhs = kept (numberOf r) z _ _;
-      scratched = untouched (numberOf r) _ _;
-    }
-
-split-plane-requires : tie.Need-split-plane-requires
-split-plane-requires c κs =
-    let h = c .before .before .before .before .before in
-    let l = h .before in
-    let e = l .before .before .before .before in
-    let p = analysing _ _ _ _ _ _ _ _ _ (sym (e .before .before .plane-analysis-answer .ensures) ∙ e .enum-told .given .1) in
-    (lent-all (p .held .sides .taps .most) (l .split-plane-arg .given .0) (h .split-plane-arg2 .given .0), record { held = p .held; wide = p .wide; high = p .high; bands = omega (arith, p .bands) })
+analyse-plane-requires : tie.Need-analyse-plane-requires
+analyse-plane-requires c κs = let h = c .before .before .before .before .before in counted-all (h .before .analyse-plane-arg .given .0) (h .analyse-plane-arg2 .given .0)
 
 same-length : tie.Need-same-length
 same-length c = search needs
@@ -55,18 +22,8 @@ same-length-4 c = search needs
 same-length-5 : tie.Need-same-length-5
 same-length-5 c = search needs
 
-returns-2 : tie.Need-returns-2
-returns-2 c =
-    let w = c .before .before .before .before .before .before .before .before .before .before .split-plane .ensures in
-    let e = c .before .before .before .before .before .before .before .before .before .before .before .before .before .before .before .before .before .before .before .before .before in
-    record {
-      answer = sym (e .enum-told .given .1) ∙ e .before .before .plane-analysis-answer .ensures;
-      lls = w .lls;
-      lhs = w .lhs;
-      hls = w .hls;
-      hhs = w .hhs;
-      scratched = touched _ (w .long) (w .beyond);
-    }
+returns : tie.Need-returns
+returns c = c .before .before .before .before .before .before .before .before .before .before .analyse-plane .ensures
 
 pub analyse-plane-spec : {M : Type 1} → statement M
-analyse-plane-spec = tie.close (tie.spec plane-analysis-answer-requires enum-told returns split-plane-requires same-length same-length-2 same-length-3 same-length-4 same-length-5 returns-2)
+analyse-plane-spec = tie.close (tie.spec analyse-plane-requires same-length same-length-2 same-length-3 same-length-4 same-length-5 returns)

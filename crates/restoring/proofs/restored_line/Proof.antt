@@ -68,7 +68,7 @@ returns-2 c =
     let e = need .before in
     let w = e .before .before .before .before .before .before in
     let a = w .before .before .before .before .before .before .args in
-    second-handed (a .bank) (now (a .packed)) (a .n) (a .levels) (now (a .first)) (now (a .second)) _ _ (w .restore-levels .result) (t .before .most .result) _
+    second-handed (a .bank .low) (a .bank .high) (a .bank .taps) (now (a .packed)) (a .n) (a .levels) (now (a .first)) (now (a .second)) _ _ (w .restore-levels .result) (t .before .most .result) _
     (w .restore-levels .ensures) (e .enum-told .given .1) (t .before .most .ensures) (need .restoring-need .ensures) (omega (arith, t .if1 .taken))
 
 returns-3 : tie.Need-returns-3
@@ -78,7 +78,7 @@ returns-3 c =
     let e = need .before in
     let w = e .before .before .before .before .before .before in
     let a = w .before .before .before .before .before .before .args in
-    first-handed (a .bank) (now (a .packed)) (a .n) (a .levels) (now (a .first)) (now (a .second)) _ _ (w .restore-levels .result) (t .before .most .result) _
+    first-handed (a .bank .low) (a .bank .high) (a .bank .taps) (now (a .packed)) (a .n) (a .levels) (now (a .first)) (now (a .second)) _ _ (w .restore-levels .result) (t .before .most .result) _
     (w .restore-levels .ensures) (e .enum-told .given .1) (t .before .most .ensures) (need .restoring-need .ensures) (λ e. absurd (omega (arith, e, t .if1 .left)))
 
 pub restored-line-spec : {M : Type 1} → statement M

@@ -1,42 +1,17 @@
--- `synthesis::synthesise` meets its contract. Where the answer is done every test passed, which gives the work what it asks for; on any other answer nothing was written.
-use denote.Enum.Declared.{tagOf, declared}
-use Rattle.synthesis.specs.Syntheses.{numberOf}
-use Rattle.synthesis.proofs.Synthesis.{enum}
+-- `synthesis::synthesise` meets its contract: it is that of its lists, which are a bank's arrays with their count.
 use borrow.Author.Needs.{needs}
 use Rattle.synthesis.proofs.synthesise.Statement.{statement}
 use Rattle.synthesis.proofs.synthesise.Tie as tie
-use Rattle.bank.specs.Tested.{lent-all}
-use Rattle.synthesis.specs.Tested.{joinable, done-alone}
-use Rattle.numbers.specs.Tests.{kept, key-above, other, refused}
-use lib.Dec.{lit<}
-use mathlib.Core.Path.{_∙_, refl, sym}
+use Rattle.bank.specs.Tested.{counted-all}
 
-synthesis-answer-requires : tie.Need-synthesis-answer-requires
-synthesis-answer-requires c κs = search needs
-
-enum-told : tie.Need-enum-told
-enum-told c = search needs
-
-returns : tie.Need-returns
-returns c = let r = c .before .synthesis-answer .result in
-    record { answer = c .before .synthesis-answer .ensures; joined = kept (numberOf r) (refused numberOf done-alone r (other (tagOf (declared enum)) r refl (key-above 4 1 _ (lit< tt) (c .match .keys2)))) _ _ }
-
-join-requires : tie.Need-join-requires
-join-requires c κs = let h = c .before in
-    let l = h .before in
-    let e = l .before .before .before .before in
-    let j = joinable _ _ _ _ (sym (e .before .before .synthesis-answer .ensures) ∙ e .enum-told .given .1) in
-    let t = lent-all (j .most) (l .join-arg .given .0) (h .join-arg2 .given .0) in
-    record { all = j; lows = t .lows; highs = t .highs }
+synthesise-requires : tie.Need-synthesise-requires
+synthesise-requires c κs = let h = c .before in counted-all (h .before .synthesise-arg .given .0) (h .synthesise-arg2 .given .0)
 
 same-length : tie.Need-same-length
 same-length c = search needs
 
-returns-2 : tie.Need-returns-2
-returns-2 c = let e = c .before .before .before .before .before .before .before .before .before in
-    record { answer = sym (e .enum-told .given .1) ∙ e .before .before .synthesis-answer .ensures; joined = c .before .before .join .ensures }
+returns : tie.Need-returns
+returns c = c .before .before .synthesise .ensures
 
 pub synthesise-spec : {M : Type 1} → statement M
-synthesise-spec =
-    tie.close
-    (tie.spec synthesis-answer-requires enum-told returns join-requires same-length returns-2)
+synthesise-spec = tie.close (tie.spec synthesise-requires same-length returns)

@@ -1,7 +1,5 @@
 -- `isferghul_level_part` meets its contract: it tells what the entry answers.
-use mathlib.Core.Path.{sym}
-use Rattle.level_sizes.specs.Sizes.{partNumber, partValues}
-use Rattle.telling.specs.Telling.{told-as}
+use Rattle.telling.specs.Telling.{told-of}
 use borrow.Author.Needs.{needs}
 use Rattle.isferghul.proofs.depths.isferghul_level_part.Statement.{statement}
 use Rattle.isferghul.proofs.depths.isferghul_level_part.Tie as tie
@@ -13,7 +11,7 @@ level-part-requires-2 : tie.Need-level-part-requires-2
 level-part-requires-2 c κs = search needs
 
 returns : tie.Need-returns
-returns c = told-as partNumber partValues (sym (c .before .before .level-part .ensures .answer)) (c .level-part2 .ensures)
+returns c = told-of _ (c .before .before .level-part .ensures) (c .level-part2 .ensures)
 
 pub isferghul-level-part-spec : {M : Type 1} → statement M
 isferghul-level-part-spec = tie.close (tie.spec level-part-requires level-part-requires-2 returns)

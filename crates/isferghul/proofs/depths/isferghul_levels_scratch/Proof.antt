@@ -1,7 +1,5 @@
 -- `isferghul_levels_scratch` meets its contract: it tells what the entry answers.
-use mathlib.Core.Path.{sym}
-use Rattle.level_sizes.specs.Sizes.{sizeNumber, sizeValues}
-use Rattle.telling.specs.Telling.{told-as}
+use Rattle.telling.specs.Telling.{told-of}
 use borrow.Author.Needs.{needs}
 use Rattle.isferghul.proofs.depths.isferghul_levels_scratch.Statement.{statement}
 use Rattle.isferghul.proofs.depths.isferghul_levels_scratch.Tie as tie
@@ -13,7 +11,7 @@ level-size-requires : tie.Need-level-size-requires
 level-size-requires c κs = search needs
 
 returns : tie.Need-returns
-returns c = told-as sizeNumber sizeValues (sym (c .before .before .levels-scratch .ensures .answer)) (c .level-size .ensures)
+returns c = told-of _ (c .before .before .levels-scratch .ensures) (c .level-size .ensures)
 
 pub isferghul-levels-scratch-spec : {M : Type 1} → statement M
 isferghul-levels-scratch-spec =

@@ -1,7 +1,5 @@
 -- `isferghul_plane_band_height` meets its contract: it tells what the entry answers.
-use mathlib.Core.Path.{sym}
-use Rattle.planes.specs.Answers.{sizeNumber, sizeValues}
-use Rattle.telling.specs.Telling.{told-as}
+use Rattle.telling.specs.Telling.{told-of}
 use borrow.Author.Needs.{needs}
 use Rattle.isferghul.proofs.planar.isferghul_plane_band_height.Statement.{statement}
 use Rattle.isferghul.proofs.planar.isferghul_plane_band_height.Tie as tie
@@ -13,7 +11,7 @@ size-told-requires : tie.Need-size-told-requires
 size-told-requires c κs = search needs
 
 returns : tie.Need-returns
-returns c = told-as sizeNumber sizeValues (sym (c .before .before .plane-band-height .ensures .answer)) (c .size-told .ensures)
+returns c = told-of _ (c .before .before .plane-band-height .ensures) (c .size-told .ensures)
 
 pub isferghul-plane-band-height-spec : {M : Type 1} → statement M
 isferghul-plane-band-height-spec = tie.close (tie.spec plane-band-height-requires size-told-requires returns)

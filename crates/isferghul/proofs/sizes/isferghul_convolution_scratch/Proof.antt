@@ -1,8 +1,8 @@
 -- `isferghul_convolution_scratch` meets its contract: it tells what the entry answers.
-use Rattle.telling.specs.Telling.{told-as}
+use Rattle.telling.specs.Telling.{told-of}
 use Rattle.convolution.specs.Places.{back}
-use Rattle.convolution.specs.Sizes.{numberOf, valuesOf, sizeOf}
-use mathlib.Core.Path.{sym, ap, _∙_}
+use Rattle.convolution.specs.Sizes.{sizeOf}
+use mathlib.Core.Path.{ap, _∙_}
 use borrow.Author.Needs.{needs}
 use Rattle.isferghul.proofs.sizes.isferghul_convolution_scratch.Statement.{statement}
 use Rattle.isferghul.proofs.sizes.isferghul_convolution_scratch.Tie as tie
@@ -15,7 +15,7 @@ scratch-requires c κs = search needs
 
 returns : tie.Need-returns
 returns c = let s = c .before .before .before in
-    told-as numberOf valuesOf (sym (c .before .before .convolution-scratch .ensures .answer ∙ ap (sizeOf (s .args .n) (s .args .f)) (back (s .args .centre) (s .fits .centre)))) (c .scratch .ensures)
+    told-of _ (record { answer = c .before .before .convolution-scratch .ensures .answer ∙ ap (sizeOf (s .args .n) (s .args .f)) (back (s .args .centre) (s .fits .centre)) }) (c .scratch .ensures)
 
 pub isferghul-convolution-scratch-spec : {M : Type 1} → statement M
 isferghul-convolution-scratch-spec =

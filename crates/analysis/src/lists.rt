@@ -1,0 +1,31 @@
+// Analysis by tap lists, for an entry that has a bank and for one that has the caller's own lists.
+ghost use lib.ListN.{length};
+ghost use Rattle.bank.specs.Lengths.{Counted};
+ghost use Rattle.analysis.specs.Analyses.{Analysed};
+use crate::Analysis;
+use crate::analysis_answer;
+use crate::work::line_bands;
+use border::Border;
+
+// Both bands of a line, by way of the padded line at the front of the scratch.
+pub fn analyse<'a>(
+    low: &'a [f64],
+    high: &'a [f64],
+    f: usize,
+    border: Border,
+    line: &[f64],
+    approx: &mut [f64],
+    detail: &mut [f64],
+    scratch: &mut [f64],
+) -> Analysis
+    requires { ⌜ Counted f (length (now low)) (length (now high)) ⌝ }
+    ensures { λ r. ⌜ Analysed (now (low .entry)) (now (high .entry)) f border (now (line .entry)) (now (approx .entry)) (now (detail .entry)) (now (scratch .entry))
+        r (now (approx .exit)) (now (detail .exit)) (now (scratch .exit)) ⌝ }
+{
+    let answer = analysis_answer(f, line.len(), approx.len(), detail.len(), scratch.len());
+    let Analysis::Done = answer else {
+        return answer;
+    };
+    line_bands(low, high, f, border, line, approx, detail, scratch);
+    Analysis::Done
+}
