@@ -1,6 +1,6 @@
-"""What the list of document 01's answers asks: its examples, the ends of its domain, every refusal and pairs of them, special floats, dirty buffers.
+"""What the list of the rules' answers asks: P1 to P12, the ends of the domain, every refusal and pairs of them, special floats, dirty buffers.
 
-`ASKED` fills with (name, case, answer, what every lent list then holds), answered by judge/rules.py and judge/sums.py; the document's own numbers, and
+`ASKED` fills with (name, case, answer, what every lent list then holds), answered by judge/rules.py and judge/sums.py; the rules' own numbers, and
 some worked by hand, are asserted here. A list that is lent begins as sevens, or eights, unless it says otherwise. Levels and planes ask in files of their own."""
 import rules
 import sums

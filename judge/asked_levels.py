@@ -1,4 +1,4 @@
-"""What the list of document 01's answers asks about several levels."""
+"""What the list of the rules' answers asks about several levels."""
 import rules
 import sums
 from asked import (APART, ask, CLAMP, counted, eights, EVERY, every, FOURS, HALVES, HUGE, INF, LOW8, mirrored, NAN, ones, PARTED, REFLECT, REFLECT101, refused, sevens, SIXED, SUMS,

@@ -1,4 +1,4 @@
-"""What the list of document 01's answers asks about planes and about comparing two bands."""
+"""What the list of the rules' answers asks about planes and about comparing two bands."""
 import rules
 from asked import (APART, ask, CLAMP, counted, EVERY, every, FOURS, HALVES, HUGE, INF, mirrored, NAN, ones, PARTED, REFLECT, REFLECT101, refused, sevens, SIXED, SUMS, taps, TENS, times,
                    WRAP, ZEROS)

@@ -3,7 +3,7 @@
     compare.py --seed N --cases N --work FOLDER --differences FILE --driver COMMAND --host COMMAND
 
 Two results agree if the number, what it carries and every lent buffer agree, bit for bit, every NaN being one; of a plane's scratch, after
-a done call, what lies beyond its need. Where they do not, ours has to be document 01's (rules.py) and a row of docs/DIFFERENCES.md has to
+a done call, what lies beyond its need. Where they do not, ours has to be what the rules say (rules.py) and a row of docs/DIFFERENCES.md has to
 admit what the Rust does (rows.py). The last line is `N cases, K differ`, and before it stands the smallest input at which the two part, if
 they do."""
 import argparse
@@ -37,7 +37,7 @@ def fault_of_ours(case, ours):
         return 'ours changed what it may only read, or a word outside the lists'
     ruled = rules.answer(case)
     if (ours.number,) + ours.carried != padded(ruled):
-        return 'document 01 answers %s' % (ruled,)
+        return 'the rules answer %s' % (ruled,)
     if ours.number != 0 and any(ours.reaches):
         return 'ours refused and changed a lent buffer'
     if ours.number == 0 and any(reach > may for reach, may in zip(ours.reaches, rules.may_reach(case))):
@@ -46,7 +46,7 @@ def fault_of_ours(case, ours):
 
 
 def said(case, result):
-    """The lent buffers, as far as document 01 says what they then hold."""
+    """The lent buffers, as far as the rules say what they then hold."""
     if result.number != 0:
         return result.buffers
     return [data[8 * front:] for data, front in zip(result.buffers, rules.unsaid(case))]

@@ -1,4 +1,4 @@
-/* A small program over the library: document 01's examples P8 and P9. What it has to print stands in example.txt, worked out from document 01. */
+/* A small program over the library: P8 and P9 of docs/RULES.md. What it has to print stands in example.txt, worked out from the rules. */
 #include "isferghul.h"
 #include <stdio.h>
 #include <stdlib.h>

@@ -1,6 +1,6 @@
-"""Document 01's examples P1 to P12 as questions, out of crates/worked/specs/Examples.antt, where they are proved.
+"""P1 to P12 (RULES, Examples) as questions, out of crates/worked/specs/Examples.antt, where they are proved.
 
-It knows no rule of document 01: questions and answers are that list's. What an example does not tell, such as a scratch, is lent long enough and left open."""
+It knows none of the rules: questions and answers are that list's. What an example does not tell, such as a scratch, is lent long enough and left open."""
 import pathlib
 import re
 

@@ -1,5 +1,5 @@
 #!/usr/bin/env python3
-"""judge/lists.py: fails where the lists that crates/replay and crates/replay_small read, or what crates/example has to print, are not what document 01's rules
+"""judge/lists.py: fails where the lists that crates/replay and crates/replay_small read, or what crates/example has to print, are not what docs/RULES.md
 and the proved examples say, or where crates/questions names an operation otherwise than judge/protocol.py. judge/lists.py --write writes them anew.
 (The Rust's list is judge/list's.)"""
 import pathlib
@@ -28,7 +28,7 @@ def answered(questions):
         yield protocol.line(case, answer, after).rstrip('\n')
 
 
-def of_document():
+def of_rules():
     """Every question of the rules, theme by theme."""
     for theme in (asked.lengths, asked.lists_of_taps, asked.borders, asked.lines, asked.kernels, asked.roundings, asked.specials, asked.refused_lines, asked.refused_kernels, asked.there_and_back,
                   asked_levels.lengths, asked_levels.analyses, asked_levels.parts, asked_levels.restorings, asked_levels.there_and_back, asked_levels.refusals,
@@ -50,12 +50,12 @@ def few(questions):
 
 
 def lists():
-    questions = of_document()
+    questions = of_rules()
     return {
-        DATA / 'document01': ["# Calls and document 01's answers to them, computed by judge/rules.py and judge/sums.py; judge/asked.py and the two beside it ask.", *protocol.FORM, *answered(questions)],
-        DATA / 'examples': ["# Document 01's examples P1 to P12, made by judge/examples.py of the list that is proved in crates/worked/specs/Examples.antt.", *protocol.FORM, *answered(examples.questions())],
+        DATA / 'rules': ["# Calls and the answers of docs/RULES.md to them, computed by judge/rules.py and judge/sums.py; judge/asked.py and the two beside it ask.", *protocol.FORM, *answered(questions)],
+        DATA / 'examples': ["# P1 to P12 of docs/RULES.md, made by judge/examples.py of the list that is proved in crates/worked/specs/Examples.antt.", *protocol.FORM, *answered(examples.questions())],
         ROOT / 'crates/example/stdout': shown.lines(),
-        SMALL: ["# Document 01's examples, and a few of the questions that crates/replay/data/document01 has of each operation.", *protocol.FORM, *answered(examples.questions()), *answered(few(questions))]}
+        SMALL: ["# P1 to P12 of docs/RULES.md, and a few of the questions that crates/replay/data/rules has of each operation.", *protocol.FORM, *answered(examples.questions()), *answered(few(questions))]}
 
 
 def misnamed():

@@ -1,4 +1,4 @@
-"""Document 01's tests, from its text: which number answers a case and what it carries, and how far a done call may write its buffers.
+"""The tests of docs/RULES.md, from its text: which number answers a case and what it carries, and how far a done call may write its buffers.
 
 An answer is a tuple, the number first. Two numbers are the C interface's own: NO_BORDER, tested before everything else, and DIFFER, told where two bands that passed every test differ."""
 from protocol import (ANALYSE, ANALYSE_LEVELS, ANALYSE_PLANE, ANALYSIS_ANSWER, ANALYSIS_SCRATCH, BACK_ANSWER, BAND_LENGTH, BORDERS, COMPARE_BANDS, COMPARING_ANSWER,
@@ -402,14 +402,14 @@ TESTS = {
 
 
 def answer(case):
-    """The number that document 01 gives to the case, and what it carries."""
+    """The number that the rules give to the case, and what it carries."""
     if case.op == COMPARE_BANDS:
         return compare_bands(*case.scalars, *case.lists)
     return TESTS[case.op](*case.scalars, *case.counts)
 
 
 def unsaid(case):
-    """How many places at the front of each lent buffer document 01 leaves open after a done call: a plane's scratch within its need."""
+    """How many places at the front of each lent buffer the rules leave open after a done call: a plane's scratch within its need."""
     fronts = [0] * len(case.shape().lent)
     if case.op in (ANALYSE_PLANE, SYNTHESISE_PLANE):
         fronts[-1] = plane_need(*case.scalars[-2:], case.counts[0])

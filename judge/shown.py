@@ -1,4 +1,4 @@
-"""What crates/example has to print, from document 01's rules and sums: a label and a number, and a line for each float."""
+"""What crates/example has to print, from the rules and sums of docs/RULES.md: a label and a number, and a line for each float."""
 import sums
 from asked import bits, CLAMP, LOW8, mirrored, REFLECT101, sevens, SUMS, times, WRAP
 

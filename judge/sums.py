@@ -1,6 +1,6 @@
-"""Document 01's numbers, from its text: what every lent buffer holds after a call that is done. Each product is rounded, then each sum.
+"""The numbers of docs/RULES.md, from its text: what every lent buffer holds after a call that is done. Each product is rounded, then each sum.
 
-Beside judge/rules.py, which has the tests. Buffers go in and out as lists of floats; OPEN is a place that document 01 leaves open."""
+Beside judge/rules.py, which has the tests. Buffers go in and out as lists of floats; OPEN is a place that the rules leave open."""
 import rules
 from protocol import (ANALYSE, ANALYSE_LEVELS, ANALYSE_PLANE, BORDERS, CONVOLVE, LEVEL_DETAILS, MIRROR, OPEN, READ_PLACE, RESTORE_LEVELS, RESTORED_LINE, SYNTHESISE,
                       SYNTHESISE_PLANE, THERE_AND_BACK)

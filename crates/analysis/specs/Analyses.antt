@@ -13,7 +13,7 @@ use Rattle.analysis.specs.declared.Analysis.the-variants.{Done, MinFilte
 use Rattle.analysis.specs.Lines.{band, paddedInto}
 use Rattle.bank.specs.Lengths.{badTaps, paddedLength, pairs}
 
--- document 01's number of an answer, and the values that it carries
+-- the number of an answer, and the values that it carries (RULES, Numbers)
 abbrev pub numberOf : Analysis → ℕ
 numberOf Done = 0
 numberOf (MinFilterSize n f) = 1

@@ -1,5 +1,5 @@
 -- Laws of both bands in one buffer: none of either, some places more, and all of them; and the line that lies behind them stays.
-use Prim.Native.Nat.{ℕ, _+_, _-_, _*_, _≤_, _<_}
+use Prim.Native.Nat.{ℕ, _+_, _-_, _≤_, _<_}
 use native.Mathlib.Decide.{decLt}
 use native.Mathlib.Omega.{arith}
 use mathlib.Core.Logic.{_⊎_, inl, inr, ⊎-elim}
@@ -11,6 +11,7 @@ use lib.Ieee.{Float, nan}
 use Rattle.numbers.specs.Words.{at, tab, written, placed}
 use Rattle.numbers.specs.Write.{length-tab, getD-tab, tab-getD, written-all, placed-start, placed-step, length-placed, getD-placed-before, getD-placed-behind}
 use Rattle.numbers.specs.Places.{is-placed, part-ext, getD-placed-in, placed-front}
+use Rattle.bank.specs.Lengths.{spanned}
 use Rattle.analysis.specs.Works.{lineAt, Halves}
 
 -- none of either
@@ -105,9 +106,9 @@ pub halves-from : {g h g′ h′ : ℕ → Float} (to m r i : ℕ) {x y s : List
 halves-from to m r i p q = record { long = q .long ∙ p .long; first = q .first; second = q .second; apart = λ j o. q .apart j o ∙ p .apart j o }
 
 -- the line is as it was
-pub line-same : (g h : ℕ → Float) (f from to m i e : ℕ) (x s : List Float) → to + (m + m) ≤ from → e ≡ 2 * m + f - 2 → Halves g h to m i x s → take e (drop from s) ≡ lineAt f from m x
+pub line-same : (g h : ℕ → Float) (f from to m i e : ℕ) (x s : List Float) → to + (m + m) ≤ from → e ≡ spanned m f → Halves g h to m i x s → take e (drop from s) ≡ lineAt f from m x
 line-same g h f from to m i e x s before q p =
-    ap (λ (k : ℕ). take k (drop from s)) q ∙ part-ext nan from (2 * m + f - 2) s x (p .long) (λ j l k. p .apart j (inr (omega arith)))
+    ap (λ (k : ℕ). take k (drop from s)) q ∙ part-ext nan from (spanned m f) s x (p .long) (λ j l k. p .apart j (inr (omega arith)))
 
 -- ---- both bands fill the buffer, from its front on
 pub beside-run : (g h u v : ℕ → Float) (m i n : ℕ) (x s : List Float) {s₁ s₂ : List Float} → i + n ≤ m → length x ≡ m + m → Halves g h 0 m i x s

@@ -4,7 +4,7 @@ use Rattle.analysis.specs.declared.Analysis.{Analysis}
 use Rattle.analysis.specs.declared.Analysis.the-variants.{Done, MinFilterSize, ApproxDetailsSize, ScratchSize, Limit, Taps}
 use Rattle.analysis.specs.Analyses.{answerOf, numberOf}
 use Rattle.analysis.specs.Works.{Analysing}
-use Prim.Native.Nat.{ℕ, _*_, _+_, _-_}
+use Prim.Native.Nat.{ℕ, _+_, _-_}
 use Rattle.numbers.specs.Tests.{passed}
 use Rattle.numbers.specs.Words.{longest}
 use borrow.Author.Tests.{eqb-true, ltb-false, not-false, eq-eqb, le-ltb}
@@ -13,8 +13,8 @@ use mathlib.Core.Bool.{not}
 use native.Mathlib.Omega.{arith}
 use Rattle.border.specs.declared.Border.{Border}
 use Rattle.border.specs.Reach.{Paddable}
-use Rattle.bank.specs.Lengths.{badTaps, paddedLength, pairs, Analysable}
-use Rattle.bank.specs.Tested.{good-taps, taps-pass}
+use Rattle.bank.specs.Lengths.{badTaps, paddedLength, pairs, rightPad, Analysable}
+use Rattle.bank.specs.Tested.{good-taps, taps-pass, right-rest}
 
 pub analysing : (f n a d s : ℕ) → answerOf f n a d s ≡ Done → Analysing f n a d s
 unfolding answerOf
@@ -55,12 +55,12 @@ done-alone Limit e = absurd (omega arith)
 done-alone Taps e = absurd (omega arith)
 
 -- the pads of a line: they may be asked for, and with the line they fill the padded length
-pub pads : (b : Border) (n f : ℕ) → Analysable n f → Paddable b n (f - 2) (2 * pairs n f - n)
-pads b n f p = record {
+pub pads : (b : Border) (n f : ℕ) {right : ℕ} → right ≡ rightPad n f → Analysable n f → Paddable b n (f - 2) right
+pads b n f e p = record {
   some = omega (arith, p .taps .two, p .enough);
   few = p .limit;
-  near = λ q h. (omega (arith, p .taps .two, p .enough), omega (arith, p .taps .two, p .enough, p .taps .even));
+  near = λ q h. (omega (arith, p .taps .two, p .enough), omega (arith, e, right-rest n f (p .taps), p .taps .two, p .enough, p .taps .even));
 }
 
-pub whole : (n f : ℕ) → Analysable n f → f - 2 + n + (2 * pairs n f - n) ≡ paddedLength n f
-whole n f p = omega (arith, p .taps .two, p .enough)
+pub whole : (n f : ℕ) {right : ℕ} → right ≡ rightPad n f → Analysable n f → f - 2 + n + right ≡ paddedLength n f
+whole n f e p = omega (arith, e, right-rest n f (p .taps), p .taps .two)

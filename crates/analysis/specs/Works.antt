@@ -2,12 +2,12 @@
 use mathlib.Core.Path.{_≡_}
 use mathlib.Core.Logic.{_⊎_}
 use mathlib.Core.List.{List, _++_}
-use Prim.Native.Nat.{ℕ, _+_, _-_, _*_, _≤_, _<_}
+use Prim.Native.Nat.{ℕ, _+_, _*_, _≤_, _<_}
 use lib.ListN.{length, take, drop}
 use lib.Ieee.{Float, Format}
 use Rattle.numbers.specs.Words.{at, tab, placed}
 use Rattle.summing.specs.Sums.{tapSum}
-use Rattle.bank.specs.Lengths.{pairs, paddedLength, Analysable}
+use Rattle.bank.specs.Lengths.{pairs, spanned, paddedLength, Sound, Analysable}
 
 -- place i of the band
 abbrev pub bandOf : Format → List Float → ℕ → List Float → ℕ → Float
@@ -31,13 +31,13 @@ pub record Beside (f low high padded both m : ℕ) : Type 0 where
 pub record Inside (f low high s from to m : ℕ) : Type 0 where
   pub lows : f ≤ low
   pub highs : f ≤ high
-  pub two : 2 ≤ f
+  pub sound : Sound m f
   pub before : to + (m + m) ≤ from
-  pub within : from + (2 * m + f - 2) ≤ s
+  pub within : from + spanned m f ≤ s
 
 -- the padded line of m pairs that lies in a list from `from` on
 abbrev pub lineAt : ℕ → ℕ → ℕ → List Float → List Float
-lineAt f from m x = take (2 * m + f - 2) (drop from x)
+lineAt f from m x = take (spanned m f) (drop from x)
 
 -- that list with both bands in place, the approximations before the details, and the rest as it was
 abbrev pub bothPlaced : Format → List Float → List Float → ℕ → ℕ → ℕ → ℕ → List Float → List Float
@@ -56,6 +56,12 @@ pub record Halves (g h : ℕ → Float) (to m i : ℕ) (x s : List Float) : Type
 pub record Padding (f n s : ℕ) : Type 0 where
   pub ready : Analysable n f
   pub room : paddedLength n f ≤ s
+
+-- f taps and a line of n to be padded that lies in a list of s from `from` on, and behind it, from `to` on, the padded line
+pub record PaddingWithin (f n s from to : ℕ) : Type 0 where
+  pub ready : Analysable n f
+  pub before : from + n ≤ to
+  pub room : to + paddedLength n f ≤ s
 
 -- f taps, a line of n, bands of a and d and a scratch of s that pass every test
 pub record Analysing (f n a d s : ℕ) : Type 0 where

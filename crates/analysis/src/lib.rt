@@ -5,6 +5,8 @@ pub mod work;
 ghost use mathlib.Core.Path.{_≡_};
 ghost use Rattle.analysis.specs.Analyses.{answerOf, Analysed};
 use bank::Bank;
+use bank::lengths::dwt_length;
+use bank::lengths::padded_length;
 use bank::sizes::bad_taps;
 use numbers::LONGEST;
 
@@ -30,14 +32,14 @@ pub fn analysis_answer(f: usize, n: usize, approx: usize, detail: usize, scratch
     if n < f {
         return Analysis::MinFilterSize { n, f };
     }
-    let m = (n + f - 1) / 2;
+    let m = dwt_length(n, f);
     if approx != m {
         return Analysis::ApproxDetailsSize(approx);
     }
     if detail != m {
         return Analysis::ApproxDetailsSize(detail);
     }
-    let need = 2 * m + f - 2;
+    let need = padded_length(m, f);
     if scratch < need {
         return Analysis::ScratchSize {
             need,

@@ -2,14 +2,17 @@
 ghost use mathlib.Core.Path.{_≡_};
 ghost use mathlib.Core.List.{_++_};
 ghost use Prim.Native.Nat.{_≤_};
-ghost use lib.ListN.{length};
+ghost use lib.ListN.{length, take, drop};
 ghost use lib.Ieee.{binary64};
-ghost use Rattle.numbers.specs.Words.{tab, written};
-ghost use Rattle.bank.specs.Lengths.{Lent};
-ghost use Rattle.analysis.specs.Lines.{band, paddedInto};
-ghost use Rattle.analysis.specs.Works.{bandOf, bothPlaced, lineAt, Bandable, Beside, Inside, Halves, Padding, Analysing};
+ghost use Rattle.numbers.specs.Words.{tab, written, placed};
+ghost use Rattle.bank.specs.Lengths.{paddedLength, Lent};
+ghost use Rattle.analysis.specs.Lines.{band, paddedAt, paddedInto};
+ghost use Rattle.analysis.specs.Works.{bandOf, bothPlaced, lineAt, Bandable, Beside, Inside, Halves, Padding, PaddingWithin, Analysing};
+use bank::lengths::padded_length;
+use bank::lengths::right_pad;
 use border::Border;
 use border::pad::pad;
+use border::pad::pad_within;
 use summing::eights::eight;
 use summing::eights::put;
 use summing::place;
@@ -109,7 +112,7 @@ fn eights_within(
     requires { ⌜ Inside f (length (now low)) (length (now high)) (length (now s)) from to m ⌝ }
     ensures { λ r. ⌜ (r ≤ m) × Halves (bandOf binary64 (now (low .entry)) f (lineAt f from m (now (s .entry)))) (bandOf binary64 (now (high .entry)) f (lineAt f from m (now (s .entry)))) to m r (now (s .entry)) (now (s .exit)) ⌝ }
 {
-    let end = from + (2 * m + f - 2);
+    let end = from + padded_length(m, f);
     let mut i = 0usize;
     while i + 7 < m {
         let pairs = eight(low, high, f, &s[from..end], 2 * i);
@@ -133,7 +136,7 @@ pub fn bands_within(
     requires { ⌜ Inside f (length (now low)) (length (now high)) (length (now s)) from to m ⌝ }
     ensures { λ _. ⌜ now (s .exit) ≡ bothPlaced binary64 (now (low .entry)) (now (high .entry)) f from to m (now (s .entry)) ⌝ }
 {
-    let end = from + (2 * m + f - 2);
+    let end = from + padded_length(m, f);
     let mut i = eights_within(low, high, f, s, from, to, m);
     while i < m {
         let p = place(low, high, f, &s[from..end], 2 * i);
@@ -148,10 +151,15 @@ pub fn pad_line(f: usize, border: Border, line: &[f64], scratch: &mut [f64])
     requires { ⌜ Padding f (length (now line)) (length (now scratch)) ⌝ }
     ensures { λ _. ⌜ now (scratch .exit) ≡ paddedInto f border (now (line .entry)) (now (scratch .entry)) ⌝ }
 {
-    let n = line.len();
-    let left = f - 2;
-    let m = (n + f - 1) / 2;
-    pad(border, line, left, 2 * m - n, scratch);
+    pad(border, line, f - 2, right_pad(line.len(), f), scratch);
+}
+
+// The same where the line, n numbers from `from` on, lies in the buffer that takes the padded line, from `to` on.
+pub fn pad_line_within(f: usize, border: Border, s: &mut [f64], from: usize, n: usize, to: usize)
+    requires { ⌜ PaddingWithin f n (length (now s)) from to ⌝ }
+    ensures { λ _. ⌜ now (s .exit) ≡ placed (paddedAt f border (take n (drop from (now (s .entry))))) to (paddedLength n f) (now (s .entry)) ⌝ }
+{
+    pad_within(border, s, from, n, to, f - 2, right_pad(n, f));
 }
 
 // Both bands of a line, by way of the padded line at the front of the scratch. The tap lists have one lifetime, so that a bank can lend its fields.

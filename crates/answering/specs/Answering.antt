@@ -25,7 +25,7 @@ use Rattle.parsing.specs.Parsing.{floats-all}
 use Rattle.parsing.specs.Unique.{decide}
 use Rattle.printing.specs.declared.Printing.{Printing}
 use Rattle.printing.specs.Printings.{Printed}
-use Rattle.answering.specs.Answers.{answerText, outputOf, requestText, TextAnswered}
+use Rattle.answering.specs.Answers.{mostNumbers, answerText, outputOf, requestText, TextAnswered}
 
 -- ---- how many numbers a text has
 some-digit : (k n : ℕ) → 1 ≤ length (digitsOf (suc k) n)
@@ -48,7 +48,7 @@ length-line : (zs : List ℤ) → 2 * length zs ≤ length (lineText zs)
 length-line [] = omega arith
 length-line (z ∷ zs) = omega (arith, length-append (numeral z) (othersText zs), some-byte z, length-others zs)
 
-pub few : (q : Request) (t : List ℕ) → Stands q t → length (numbersOf q) ≤ 2048
+pub few : (q : Request) (t : List ℕ) → Stands q t → length (numbersOf q) ≤ mostNumbers
 few q t s =
     let whole = ap length (s .same) in
     let a = length-append (nameOf (q .border)) (newline ∷ listsText (q .low) (q .high) (q .samples)) in
@@ -86,7 +86,7 @@ borderIn parsed.Unreadable = Clamp
 abbrev value : ℕ → Parsed → ℕ
 value i r = getD (valuesOf r) i 0
 
-module _ (text : List ℕ) (numbers : List Float) (r : Parsed) (numbers′ : List Float) (p : TextParsed text numbers r numbers′) (room : 2048 ≤ length numbers) where
+module _ (text : List ℕ) (numbers : List Float) (r : Parsed) (numbers′ : List Float) (p : TextParsed text numbers r numbers′) (room : mostNumbers ≤ length numbers) where
   -- a request that the text stands for is answered
   taken : (q : Request) → Stands q text → r ≡ parsed.Request (q .border) (length (q .low)) (length (q .high)) (length (q .samples))
   taken q s = p .answer q s ∙ cond-false (ltb (length numbers) (length (numbersOf q))) _ _ (le-ltb (length numbers) (length (numbersOf q)) (omega (arith, few q text s)))
@@ -132,7 +132,7 @@ module _ (text : List ℕ) (numbers : List Float) (r : Parsed) (numbers′ : Lis
         go (inl a) = a
         go (inr f) = absurd (let n = ap numberOf (sym e ∙ p .unreadable f) in omega (arith, n))
 
-    pub sized : (l + h + s ≤ length numbers′) × (s ≤ 2048)
+    pub sized : (l + h + s ≤ length numbers′) × (s ≤ mostNumbers)
     sized =
         let q = asked .request in
         let f = fields q (asked .stands) in

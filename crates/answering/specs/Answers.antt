@@ -2,19 +2,21 @@
 use mathlib.Core.Path.{_≡_}
 use mathlib.Core.Bool.{false}
 use mathlib.Core.List.{List}
-use Prim.Native.Nat.{ℕ, _+_, _-_, _≤_}
+use Prim.Native.Nat.{ℕ, _+_, _-_, _*_, _/_, _≤_}
 use lib.ListN.{length, take, drop}
 use lib.Ieee.{Float, binary64}
 use Rattle.numbers.specs.Words.{whenDone}
 use Rattle.whole.specs.Floats.{floats}
 use Rattle.border.specs.declared.Border.{Border}
 use Rattle.bank.specs.declared.Bank.{Bank}
-use Rattle.bank.specs.Lengths.{pairs, Analysable}
+use Rattle.bank.specs.Lengths.{pairs, paddedLength, Analysable}
 use Rattle.bank.specs.Banks as Banks
 use Rattle.bank.specs.Sizes as Sizes
 use Rattle.analysis.specs.Lines.{band}
-use Rattle.texts.specs.Texts.{Request, Stands}
+use Rattle.texts.specs.Texts.{longestText, Request, Stands}
 use Rattle.texts.specs.Prints.{bandsText, refusalText}
+use Rattle.parsing.specs.declared.Parsed.the-variants as parsed
+use Rattle.parsing.specs.Parses as Parses
 use Rattle.printing.specs.declared.Printing.{Printing}
 use Rattle.printing.specs.Printings.{Printed}
 
@@ -31,21 +33,36 @@ answerText b low high line =
 abbrev pub outputOf : Request → List ℕ
 outputOf q = answerText (q .border) (floats binary64 (q .low)) (floats binary64 (q .high)) (floats binary64 (q .samples))
 
--- a text that stands for a request is answered by the request's, and any other by refusal 14
+-- a text that stands for a request is answered by the request's, and any other by the number of one that is unreadable, 14
 pub record TextAnswered (text out : List ℕ) (r : Printing) (out′ : List ℕ) : Type 0 where
   pub request : (q : Request) → Stands q text → Printed false (outputOf q) out r out′
-  pub unreadable : ((q : Request) → Stands q text → ⊥) → Printed false (refusalText 14) out r out′
+  pub unreadable : ((q : Request) → Stands q text → ⊥) → Printed false (refusalText (Parses.numberOf parsed.Unreadable)) out r out′
 
 -- both bands of a line by a bank that can analyse it
 abbrev pub bankText : Bank → List Float → List ℕ
 bankText bank line = bandsText (band binary64 (bank .low) (bank .taps) (bank .border) line) (band binary64 (bank .high) (bank .taps) (bank .border) line)
 
--- room for the bands of n samples, whatever the taps: n at most 2,048, bands of 1,056, a scratch of 2,176
+-- the most numbers of a text: each has a byte at least, and one behind it
+abbrev pub mostNumbers : ℕ
+mostNumbers = longestText / 2
+
+-- the most pairs of so many samples, which are those with 64 taps, and their padded length
+abbrev pub mostPairs : ℕ
+mostPairs = pairs mostNumbers 64
+
+abbrev pub mostPadded : ℕ
+mostPadded = paddedLength mostNumbers 64
+
+-- the most bytes of an answer: two samples have four bytes or more, their pair two lines of 17; nine for each byte that is read leave room for the rest
+abbrev pub roomiest : ℕ
+roomiest = 9 * longestText
+
+-- room for the bands of n samples, whatever the taps
 pub record Roomy (n approx detail scratch : ℕ) : Type 0 where
-  pub short : n ≤ 2048
-  pub approxed : 1056 ≤ approx
-  pub detailed : 1056 ≤ detail
-  pub padded : 2176 ≤ scratch
+  pub short : n ≤ mostNumbers
+  pub approxed : mostPairs ≤ approx
+  pub detailed : mostPairs ≤ detail
+  pub padded : mostPadded ≤ scratch
 
 -- n samples that f taps can analyse, into bands of m
 pub record Banded (n f m approx detail scratch : ℕ) : Type 0 where

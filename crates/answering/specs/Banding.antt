@@ -30,14 +30,14 @@ use Rattle.texts.specs.Prints.{bandsText, refusalText}
 use Rattle.printing.specs.declared.Printing.{Printing}
 use Rattle.printing.specs.Printings.{tooLong, Printed}
 use Rattle.printing.specs.Tested.{none-long}
-use Rattle.answering.specs.Answers.{answerText, bankText, Roomy, Banded}
+use Rattle.answering.specs.Answers.{mostPairs, answerText, bankText, Roomy, Banded}
 
 -- one text by another name
 pub printed-as : {over : Bool} {t t′ out out′ : List ℕ} {r : Printing} → t ≡ t′ → Printed over t out r out′ → Printed over t′ out r out′
 printed-as {over} {out = out} {out′} {r} e p = subst (λ (t : List ℕ). Printed over t out r out′) e p
 
 -- ---- room
-pub few-pairs : (n f m a d s : ℕ) → Banded n f m a d s → (m ≤ 1056) × (paddedLength n f ≤ s)
+pub few-pairs : (n f m a d s : ℕ) → Banded n f m a d s → (m ≤ mostPairs) × (paddedLength n f ≤ s)
 few-pairs n f m a d s b =
     let size = b .size in
     let short = b .room .short in

@@ -1,4 +1,4 @@
--- Laws of the room that an answer needs: 36,864 bytes hold every text that can be printed, since a readable text has few numbers, so with them nothing but the whole text is answered.
+-- Laws of the room that an answer needs: `roomiest` bytes hold every text that can be printed, since a readable text has few numbers, so with them nothing but the whole text is answered.
 use mathlib.Core.Path.{_≡_, refl, sym, ap, _∙_, subst}
 use mathlib.Core.Bool.{false}
 use mathlib.Core.Logic.{_⊎_, inl, inr}
@@ -29,12 +29,8 @@ use Rattle.printing.specs.declared.Printing.{Printing}
 use Rattle.printing.specs.declared.Printing.the-variants.{Done, InputSize, Limit}
 use Rattle.printing.specs.Printings.{answerOf, Printed}
 use Rattle.printing.specs.Sizes as Printed
-use Rattle.answering.specs.Answers.{answerText, TextAnswered}
+use Rattle.answering.specs.Answers.{mostNumbers, mostPairs, roomiest, answerText, TextAnswered}
 use Rattle.answering.specs.Answering.{few}
-
--- the most bytes of an answer
-abbrev pub roomiest : ℕ
-roomiest = 36864
 
 length-head : (word : List ℕ) (n : ℕ) → length (headText word n) ≤ length word + 22
 length-head word n = omega (arith, length-append word (space ∷ (decimal n ++ (newline ∷ []))), Printed.length-line n)
@@ -45,8 +41,8 @@ length-bandText word l = omega (arith, length-append (headText word (length l)) 
 length-bands : (a d : List Float) (m : ℕ) → length a ≤ m → length d ≤ m → length (bandsText a d) ≤ 56 + 34 * m
 length-bands a d m h k = omega (arith, length-append (bandText approxWord a) (bandText detailWord d), length-bandText approxWord a, length-bandText detailWord d)
 
--- the answer to lists of no more than 2,048 samples
-fits : (b : Border) (low high line : List Float) → length line ≤ 2048 → length (answerText b low high line) ≤ roomiest
+-- the answer to lists of few samples
+fits : (b : Border) (low high line : List Float) → length line ≤ mostNumbers → length (answerText b low high line) ≤ roomiest
 fits b low high line short = go (Banks.numberOf (Banks.answerOf (length low) (length high)))
     (whenDone (Sizes.numberOf sizing) bands (refusalText (Sizes.numberOf sizing))) (sized-fits sizing refl)
   where
@@ -62,7 +58,7 @@ fits b low high line short = go (Banks.numberOf (Banks.answerOf (length low) (le
         let most = r .taps .most in
         let a = length-band binary64 low (length low) b line in
         let d = length-band binary64 high (length low) b line in
-        let h = length-bands (band binary64 low (length low) b line) (band binary64 high (length low) b line) 1056 (omega (arith, a)) (omega (arith, d)) in
+        let h = length-bands (band binary64 low (length low) b line) (band binary64 high (length low) b line) mostPairs (omega (arith, a)) (omega (arith, d)) in
         omega (arith, h)
 
     refusal : (k : ℕ) → length (refusalText k) ≤ roomiest

@@ -5,7 +5,7 @@ ghost use Prim.Native.Nat.{_+_, _≤_};
 ghost use lib.ListN.{length};
 ghost use Rattle.bank.specs.Sizes as Sizes;
 ghost use Rattle.printing.specs.Printings.{Printed};
-ghost use Rattle.answering.specs.Answers.{bankText, answerText, requestText, Roomy, Banded, TextAnswered};
+ghost use Rattle.answering.specs.Answers.{mostNumbers, bankText, answerText, requestText, Roomy, Banded, TextAnswered};
 use analysis::analyse;
 use bank::Bank;
 use bank::making::Making;
@@ -19,7 +19,7 @@ use printing::Printing;
 use printing::print_bands;
 use printing::print_refusal;
 
-// Document 01's number of a size that is refused.
+// The number of a size that is refused.
 fn number_of(size: Size) -> u64
     ensures { λ r. ⌜ r ≡ Sizes.numberOf size ⌝ }
 {
@@ -114,7 +114,7 @@ pub fn answer_text(
     scratch: &mut [f64],
     out: &mut [u8],
 ) -> Printing
-    requires { ⌜ (2048 ≤ length (now numbers)) × Roomy 2048 (length (now approx)) (length (now detail)) (length (now scratch)) ⌝ }
+    requires { ⌜ (mostNumbers ≤ length (now numbers)) × Roomy mostNumbers (length (now approx)) (length (now detail)) (length (now scratch)) ⌝ }
     ensures { λ r. ⌜ TextAnswered (now (text .entry)) (now (out .entry)) r (now (out .exit)) ⌝ }
 {
     let parsed = parse(text, numbers);

@@ -1,25 +1,30 @@
 // What the program `bands` does: it reads a text, has it answered, and writes the answer.
 ghost use Prim.Native.Nat.{_≤_};
 ghost use lib.ListN.{length};
-ghost use Rattle.answering.specs.Room.{roomiest};
+ghost use Rattle.answering.specs.Answers.{roomiest};
+use answering::ROOMIEST;
 use answering::answer;
+use parsing::LONGEST_TEXT;
 use printing::Printing;
 
-fn respond(text: &[u8], out: &mut [u8])
+// One byte more than may be read tells that the text is longer.
+const MOST_READ: usize = LONGEST_TEXT + 1;
+
+fn respond(text: &[u8], out: &mut [u8], to: i32) -> bool
     requires { ⌜ roomiest ≤ length (now out) ⌝ }
 {
     let printed = answer(text, out);
     // There is always room, so it is done.
     let Printing::Done(n) = printed else {
-        return;
+        return false;
     };
-    io::write_all(1, &out[..n]);
+    io::write_all(to, &out[..n])
 }
 
-pub fn run_on(fd: i32) {
-    // One byte more than may be read tells that the text is longer.
-    let mut text = [0u8; 4097];
-    let mut out = [0u8; 36864];
-    let n = io::read_full(fd, &mut text);
-    respond(&text[..n], &mut out);
+// Whether all of the answer was taken, as io::write_all tells: no contract says what is written, nor that what was taken arrives.
+pub fn run_on(from: i32, to: i32) -> bool {
+    let mut text = [0u8; MOST_READ];
+    let mut out = [0u8; ROOMIEST];
+    let n = io::read_full(from, &mut text);
+    respond(&text[..n], &mut out, to)
 }

@@ -13,7 +13,7 @@ use Rattle.bank.specs.declared.making.Making.{Making}
 use Rattle.bank.specs.declared.making.Making.the-variants.{Done, Taps}
 use Rattle.bank.specs.Lengths.{badTaps}
 
--- document 01's number of an answer, and the values that it carries
+-- the number of an answer, and the values that it carries (RULES, Numbers)
 abbrev pub numberOf : Making → ℕ
 numberOf Done = 0
 numberOf Taps = 12

@@ -1,4 +1,4 @@
--- The lengths of document 01, for n samples, m pairs and f taps. Definitions only.
+-- Lengths for n samples, m pairs and f taps (RULES, Lengths and sums). Definitions only.
 use mathlib.Core.Path.{_≡_}
 use mathlib.Core.Bool.{Bool, not, _||_}
 use Prim.Native.Nat.{ℕ, _+_, _-_, _*_, _/_, _%_, _≤_}
@@ -17,9 +17,20 @@ pairs n f = (n + f - 1) / 2
 abbrev pub wholePad : ℕ → ℕ → ℕ
 wholePad n f = 2 * pairs n f + f - 2 - n
 
--- the samples with all of it
+-- its left part, half of it rounded down, and its right part, the rest
+abbrev pub leftPad : ℕ → ℕ → ℕ
+leftPad n f = wholePad n f / 2
+
+abbrev pub rightPad : ℕ → ℕ → ℕ
+rightPad n f = wholePad n f - leftPad n f
+
+-- the padded samples that m pairs span
+abbrev pub spanned : ℕ → ℕ → ℕ
+spanned m f = 2 * m + f - 2
+
+-- the samples with all of their padding
 abbrev pub paddedLength : ℕ → ℕ → ℕ
-paddedLength n f = 2 * pairs n f + f - 2
+paddedLength n f = spanned (pairs n f) f
 
 -- the places that synthesis gives
 abbrev pub lineLength : ℕ → ℕ → ℕ
@@ -30,6 +41,11 @@ pub record GoodTaps (f : ℕ) : Type 0 where
   pub even : f % 2 ≡ 0
   pub two : 2 ≤ f
   pub most : f ≤ 64
+
+-- n samples, or pairs, and f taps past 12 and 11
+pub record Sound (n f : ℕ) : Type 0 where
+  pub taps : GoodTaps f
+  pub limit : n ≤ longest
 
 -- n samples and f taps past 12, 11 and 1
 pub record Analysable (n f : ℕ) : Type 0 where

@@ -9,7 +9,7 @@ use Rattle.bank.specs.declared.sizes.Size.{Size}
 use Rattle.bank.specs.declared.sizes.Size.the-variants.{Length, MinFilterSize, ZeroedBaseSize, Limit, Taps}
 use Rattle.bank.specs.Lengths.{badTaps, pairs, paddedLength, lineLength}
 
--- document 01's number of an answer, and the values that it carries
+-- the number of an answer, and the values that it carries (RULES, Numbers)
 abbrev pub numberOf : Size → ℕ
 numberOf (Length l) = 0
 numberOf (MinFilterSize n f) = 1

@@ -8,7 +8,7 @@ use Rattle.bank.specs.declared.making.Making.the-variants as making
 use Rattle.bank.specs.Banks as Banks
 use Rattle.bank.specs.Sizes as Sizes
 use Prim.Native.Nat.{_%_, _<_, _≤_, suc, zero, ℕ, _+_, _-_, _*_, _/_}
-use Rattle.bank.specs.Lengths.{badTaps, pairs, wholePad, GoodTaps, Analysable, Counted}
+use Rattle.bank.specs.Lengths.{badTaps, pairs, leftPad, rightPad, GoodTaps, Sound, Analysable, Counted}
 use Rattle.numbers.specs.Tests.{neither, passed}
 use Rattle.numbers.specs.Words.{longest, whenDone}
 use borrow.Author.Tests.{eqb-false, eqb-true, ltb-false, not-false, eq-eqb, ne-eqb, le-ltb}
@@ -72,12 +72,16 @@ sized-alike n f l k r e h = go (badTaps f) (ltb longest n) (ltb n f) e
     go false false true e = e
     go false false false e = let q = ap Sizes.numberOf e in absurd (omega arith)
 
+-- the pairs of n samples are within the limit too
+pub sound-pairs : {n f m : ℕ} → Sound n f → m ≡ pairs n f → Sound m f
+sound-pairs s e = record { taps = s .taps; limit = omega (arith, e, s .limit, s .taps .most) }
+
 -- the left pad, half of the whole padding rounded down, is f - 2
-pub left-pad : (n f : ℕ) → GoodTaps f → wholePad n f / 2 ≡ f - 2
+pub left-pad : (n f : ℕ) → GoodTaps f → leftPad n f ≡ f - 2
 left-pad n f g = omega (arith, g .two, g .even)
 
 -- the right pad, the rest of it, is f - 2 for even n and f - 1 for odd n
-pub right-pad : (n f : ℕ) → GoodTaps f → (n % 2 ≡ 0 → wholePad n f - wholePad n f / 2 ≡ f - 2) × (n % 2 ≡ 1 → wholePad n f - wholePad n f / 2 ≡ f - 1)
+pub right-pad : (n f : ℕ) → GoodTaps f → (n % 2 ≡ 0 → rightPad n f ≡ f - 2) × (n % 2 ≡ 1 → rightPad n f ≡ f - 1)
 right-pad n f g =
     let left = left-pad n f g in
     let two = g .two in
@@ -91,6 +95,10 @@ right-pad n f g =
           let m : pairs n f ≡ n / 2 + f / 2 = omega (arith, half, n′, two) in
           omega (arith, m, left, half, n′, two),
     )
+
+-- it is what 2 m has above n
+pub right-rest : (n f : ℕ) → GoodTaps f → rightPad n f ≡ 2 * pairs n f - n
+right-rest n f g = omega (arith, left-pad n f g, g .two)
 
 -- ---- making
 pub refused-bank : {b : Border} {r : Making} {bank : Bank} (new : Bank) → r ≡ making.Taps → bank ≡ Banks.noBank b → bank ≡ whenDone (Banks.numberOf r) new (Banks.noBank b)

@@ -1,7 +1,9 @@
 // The bank of filters: its record, how it is made, and the lengths that a user has to know to lend buffers.
+pub mod lengths;
 pub mod making;
 pub mod sizes;
 pub mod taps;
+pub mod work;
 
 use border::Border;
 

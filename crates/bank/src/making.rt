@@ -1,11 +1,10 @@
 // Making a bank.
 ghost use mathlib.Core.Path.{_≡_};
-ghost use Prim.Native.Nat.{_≤_, _<_};
-ghost use lib.ListN.{length};
-ghost use Rattle.numbers.specs.Words.{at, written};
-ghost use Rattle.bank.specs.Banks.{signed, mirror, zeros, heldIn, noBank, BankMade, MirrorMade};
+ghost use Rattle.bank.specs.Banks.{heldIn, noBank, BankMade, MirrorMade};
 use crate::Bank;
 use crate::sizes::bad_taps;
+use crate::work::held;
+use crate::work::low_pass_to_high;
 use border::Border;
 
 pub enum Making {
@@ -45,42 +44,6 @@ fn refused(border: Border) -> Made
             border,
         },
     }
-}
-
-// The taps in an array, zeros behind them.
-fn held(taps: &[f64]) -> [f64; 64]
-    requires { ⌜ length (now taps) ≤ 64 ⌝ }
-    ensures { λ r. ⌜ r ≡ written (at (now (taps .entry))) (length (now (taps .entry))) zeros ⌝ }
-{
-    let mut a = [0.0f64; 64];
-    let mut j = 0usize;
-    while j < taps.len() {
-        a[j] = taps[j];
-        j += 1;
-    }
-    a
-}
-
-// Signs alternate over j.
-fn signed(j: usize, x: f64) -> f64
-    ensures { λ r. ⌜ r ≡ signed j x ⌝ }
-{
-    if j % 2 == 0 { x } else { -x }
-}
-
-// The high taps of the mirror rule.
-pub fn low_pass_to_high(low: &[f64]) -> [f64; 64]
-    requires { ⌜ length (now low) ≤ 64 ⌝ }
-    ensures { λ r. ⌜ r ≡ written (mirror (now (low .entry))) (length (now (low .entry))) zeros ⌝ }
-{
-    let f = low.len();
-    let mut a = [0.0f64; 64];
-    let mut j = 0usize;
-    while j < f {
-        a[j] = signed(j, low[f - 1 - j]);
-        j += 1;
-    }
-    a
 }
 
 pub fn bank(low: &[f64], high: &[f64], border: Border) -> Made

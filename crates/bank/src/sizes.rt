@@ -2,6 +2,9 @@
 ghost use mathlib.Core.Path.{_≡_};
 ghost use Rattle.bank.specs.Lengths.{badTaps};
 ghost use Rattle.bank.specs.Sizes.{BandSized, LineSized, ScratchSized};
+use crate::lengths::dwt_length;
+use crate::lengths::idwt_length;
+use crate::lengths::padded_length;
 use numbers::LONGEST;
 
 pub enum Size {
@@ -38,7 +41,7 @@ pub fn band_length(n: usize, f: usize) -> Size
     if n < f {
         return Size::MinFilterSize { n, f };
     }
-    Size::Length((n + f - 1) / 2)
+    Size::Length(dwt_length(n, f))
 }
 
 // How many places m pairs give.
@@ -54,7 +57,7 @@ pub fn line_length(m: usize, f: usize) -> Size
     if 2 * m + 2 <= f {
         return Size::ZeroedBaseSize;
     }
-    Size::Length(2 * m + 2 - f)
+    Size::Length(idwt_length(m, f))
 }
 
 // How much scratch analysis of n samples needs.
@@ -65,5 +68,5 @@ pub fn analysis_scratch(n: usize, f: usize) -> Size
     let Size::Length(m) = size else {
         return size;
     };
-    Size::Length(2 * m + f - 2)
+    Size::Length(padded_length(m, f))
 }

@@ -2,9 +2,9 @@
 ghost use mathlib.Core.Path.{_≡_};
 ghost use Rattle.bank.specs.Banks.{tapsOf, Mirrored};
 use crate::making::Making;
-use crate::making::low_pass_to_high;
 use crate::sizes::bad_taps;
-use border::pad::copy_to;
+use crate::work::low_pass_to_high;
+use numbers::copying::copy_to;
 
 // How many taps two lists have in each; none where they make no bank.
 pub fn taps_of(low: usize, high: usize) -> usize

@@ -1,4 +1,4 @@
--- The border rule of document 01: for a place of a line of n samples, which sample stands there, or zero. Definitions only.
+-- The border rule (RULES, Borders): for a place of a line of n samples, which sample stands there, or zero. Definitions only.
 -- A place left of the line is `Before k`, which is -(k + 1); any other is `At i`.
 use mathlib.Core.Bool.{cond}
 use mathlib.Core.List.{List}

@@ -40,7 +40,7 @@ pub record FirstAt (first second : List Float) (w h c r : ℕ) : Type 0 where
   pub here : differAt first second (c * h + r) ≡ true
   pub earlier : Agree first second (c * h + r)
 
--- document 01's number of an answer, and the values that it carries
+-- the number of an answer, and the values that it carries (RULES, Numbers)
 abbrev pub numberOf : Compared → ℕ
 numberOf Equal = 0
 numberOf (Differs column row) = 0

@@ -15,7 +15,7 @@ use Rattle.convolution.specs.declared.Convolution.the-variants.{Done, In
 use Rattle.convolution.specs.Pads.{beyond, leftPad, rightPad, needed, tooFar}
 use Rattle.convolution.specs.Sums.{convolution}
 
--- document 01's number of an answer, and the values that it carries
+-- the number of an answer, and the values that it carries (RULES, Numbers)
 abbrev pub numberOf : Convolution → ℕ
 numberOf Done = 0
 numberOf (ScratchSize need have) = 5

@@ -9,7 +9,7 @@ use Rattle.convolution.specs.declared.pads.Scratch.{Scratch}
 use Rattle.convolution.specs.declared.pads.Scratch.the-variants.{Length, ZeroedBaseSize, Limit}
 use Rattle.convolution.specs.Pads.{beyond, needed}
 
--- document 01's number of an answer, and the values that it carries
+-- the number of an answer, and the values that it carries (RULES, Numbers)
 abbrev pub numberOf : Scratch → ℕ
 numberOf (Length l) = 0
 numberOf ZeroedBaseSize = 7

@@ -1,21 +1,21 @@
 // Convolution of one line with a kernel about its centre.
 pub mod pads;
+pub mod reach;
 pub mod work;
 
 ghost use mathlib.Core.Path.{_≡_};
-ghost use lib.IntN.{natAbs};
 ghost use Rattle.convolution.specs.Pads.{centreOf};
 ghost use Rattle.convolution.specs.Convolutions.{answerOf, Convolved};
-ghost use Rattle.convolution.specs.Works.{Small};
 use crate::pads::beyond;
-use crate::pads::from_filter;
 use crate::pads::split;
-use crate::pads::too_far;
+use crate::reach::from_filter;
+use crate::reach::size;
+use crate::reach::too_far;
 use crate::work::sums;
 use border::Border;
-use border::pad::copy_to;
 use border::pad::pad;
 use border::rule::Place;
+use numbers::copying::copy_to;
 
 pub enum Convolution {
     Done,
@@ -25,17 +25,6 @@ pub enum Convolution {
     MisconfiguredFilterCenter { size: usize, f: usize },
     Limit,
     Reflect101Pad,
-}
-
-// The size of a centre.
-fn size(centre: Place) -> usize
-    requires { ⌜ Small centre ⌝ }
-    ensures { λ r. ⌜ r ≡ natAbs (centreOf centre) ⌝ }
-{
-    match centre {
-        Place::Before(k) => k + 1,
-        Place::At(c) => c,
-    }
 }
 
 // The tests, on lengths, the centre and the border alone.

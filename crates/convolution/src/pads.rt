@@ -1,18 +1,10 @@
-// The pads of a kernel about its centre, and what they ask of the scratch.
+// What the pads of a kernel about its centre ask of the scratch, and the limits of a line, a kernel and a centre.
 ghost use mathlib.Core.Path.{_≡_};
-ghost use Prim.Native.Nat.{_-_, _<_};
-ghost use Rattle.convolution.specs.Pads.{beyond, padOver, tooFar, centreOf, leftPad, rightPad};
+ghost use Rattle.convolution.specs.Pads.{beyond, centreOf};
 ghost use Rattle.convolution.specs.Sizes.{ScratchSized};
-ghost use Rattle.convolution.specs.Works.{Kernel, ShortPads};
-use border::Border;
+use crate::reach::from_filter;
 use border::rule::Place;
 use numbers::LONGEST;
-use numbers::less;
-
-pub struct Pads {
-    pub left: usize,
-    pub right: usize,
-}
 
 pub enum Scratch {
     Length(usize),
@@ -44,57 +36,6 @@ pub fn beyond(n: usize, f: usize, centre: Place) -> bool
     match centre {
         Place::Before(k) => 2147483647 < k,
         Place::At(c) => 2147483647 < c,
-    }
-}
-
-// The places in front of a line.
-fn left_pad(f: usize, centre: Place) -> usize
-    requires { ⌜ Kernel f (centreOf centre) ⌝ }
-    ensures { λ r. ⌜ r ≡ leftPad f (centreOf centre) ⌝ }
-{
-    let half = (f - 1) / 2;
-    match centre {
-        Place::Before(k) => half + (k + 1),
-        Place::At(c) => less(half, c),
-    }
-}
-
-pub fn from_filter(f: usize, centre: Place) -> Pads
-    requires { ⌜ Kernel f (centreOf centre) ⌝ }
-    ensures { λ r. ⌜ (r .left ≡ leftPad f (centreOf centre)) × (r .right ≡ rightPad f (centreOf centre)) ⌝ }
-{
-    let left = left_pad(f, centre);
-    Pads {
-        left,
-        right: less(f, left),
-    }
-}
-
-// A pad over n - 2, with n above 1.
-fn over(n: usize, left: usize, right: usize) -> bool
-    requires { ⌜ ShortPads left right ⌝ }
-    ensures { λ r. ⌜ r ≡ padOver n left right ⌝ }
-{
-    if n <= 1 {
-        return false;
-    }
-    if n < left + 2 {
-        return true;
-    }
-    n < right + 2
-}
-
-// Reflect101 alone does not reach that far.
-pub fn too_far(border: Border, n: usize, left: usize, right: usize) -> bool
-    requires { ⌜ ShortPads left right ⌝ }
-    ensures { λ r. ⌜ r ≡ tooFar border n left right ⌝ }
-{
-    match border {
-        Border::Clamp => false,
-        Border::Wrap => false,
-        Border::Reflect => false,
-        Border::Zeros => false,
-        Border::Reflect101 => over(n, left, right),
     }
 }
 

@@ -5,7 +5,7 @@ ghost use lib.ListN.{length};
 ghost use lib.Ieee.{binary64};
 ghost use Rattle.numbers.specs.Words.{replaced, tab};
 ghost use Rattle.convolution.specs.Works.{product, more, placeOf, Summing, Summed};
-use border::pad::copy_to;
+use numbers::copying::copy_to;
 use numbers::least;
 
 // Sum q starts as the product of sample x + q and the first tap.

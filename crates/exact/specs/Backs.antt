@@ -15,7 +15,7 @@ use Rattle.exact.specs.declared.Back.{Back}
 use Rattle.exact.specs.declared.Back.the-variants.{Done, Analysis, Synthesis}
 use Rattle.exact.specs.Restoring.{squares, Premises, thereAndBack, Restored}
 
--- document 01's number of an answer, and the values that it carries: those of the way that was refused
+-- the number of an answer, and the values that it carries (RULES, Numbers): those of the way that was refused
 abbrev pub numberOf : Back → ℕ
 numberOf Done = 0
 numberOf (Analysis a) = Analyses.numberOf a

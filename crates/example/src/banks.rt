@@ -7,7 +7,7 @@ use bank::making::bank;
 use bank::making::mirrored;
 use border::Border;
 
-// Document 01's bank.
+// P8's bank.
 pub fn example(border: Border) -> Bank {
     let made = mirrored(&[3.0, 6.0, 2.0, -1.0], border);
     made.bank

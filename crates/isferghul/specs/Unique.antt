@@ -3,7 +3,6 @@
 use mathlib.Core.Path.{_≡_, sym, subst, _∙_, ap}
 use mathlib.Core.List.{List}
 use Prim.Native.Nat.{ℕ, _<_}
-use native.Mathlib.Omega.{arith}
 use lib.IntN.{ℤ}
 use lib.ListN.{length, drop}
 use lib.Ieee.{Float}

@@ -1,4 +1,4 @@
-// The library for C: numbers and slices in, document 01's number back, and what an answer carries in lent words.
+// The library for C: numbers and slices in, a number back (RULES, Numbers), and what it carries in lent words.
 pub mod depths;
 pub mod lines;
 pub mod packing;

@@ -2,10 +2,11 @@
 use mathlib.Core.Path.{_≡_}
 use mathlib.Core.Bool.{cond}
 use mathlib.Core.List.{List, [], _∷_}
-use Prim.Native.Nat.{ℕ, _+_}
+use Prim.Native.Nat.{ℕ, _+_, _*_}
 use lib.Dec.{ltb, leb}
 use lib.ListN.{length}
 use lib.Ieee.{Float}
+use denote.Ref.{RefT, ptr, now}
 use Rattle.numbers.specs.Words.{at, whenDone}
 use Rattle.packed.specs.Lengths.{levelsOf, levelStart, levelCount}
 use Rattle.packed.specs.Answers.{numberOf, valuesOf, heldOf, partAt}
@@ -14,7 +15,7 @@ use Rattle.level_parts.specs.declared.Handing.the-variants as handing
 use Rattle.level_parts.specs.declared.Reading.{Reading}
 use Rattle.level_parts.specs.declared.Reading.the-variants as reading
 
--- document 01's number of an answer, and the values that it carries
+-- the number of an answer, and the values that it carries (RULES, Numbers)
 abbrev pub handingNumber : Handing → ℕ
 handingNumber handing.Done = 0
 handingNumber (handing.NoSuchLevel level) = 22
@@ -45,9 +46,14 @@ handingOf n f levels p level =
     (cond (ltb (levelsOf levels) level) (handing.NoSuchLevel level) handing.Done)
     (handing.Refused (heldOf n f levels p))
 
--- that level's part, and the empty one on a refusal
-pub record HandedOut (n f levels level : ℕ) (packed part : List Float) : Type 0 where
-  pub handed : part ≡ whenDone (handingNumber (handingOf n f levels (length packed) level)) (partAt n f levels packed level) []
+-- where number k lies of a buffer that begins at an address, a block and how many bytes into it: a float has eight
+abbrev pub addressOf : ℕ × ℕ → ℕ → ℕ × ℕ
+addressOf first k = (first .0, k * 8 + first .1)
+
+-- that level's part, and the empty one on a refusal: its numbers, and that it lies where they do in the packed buffer itself
+pub record HandedOut (n f levels level : ℕ) (packed part : RefT (List Float)) : Type 0 where
+  pub handed : now part ≡ whenDone (handingNumber (handingOf n f levels (length (now packed)) level)) (partAt n f levels (now packed) level) []
+  pub lies : ptr part ≡ addressOf (ptr packed) (whenDone (handingNumber (handingOf n f levels (length (now packed)) level)) (levelStart n f levels level) 0)
 
 -- reading a place of a level: as levels up to 10, then 22, then 23
 abbrev pub readingOf : ℕ → ℕ → ℕ → ℕ → ℕ → List Float → Reading

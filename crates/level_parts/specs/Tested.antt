@@ -8,6 +8,7 @@ use borrow.Author.Tests.{ltb-false}
 use lib.Dec.{ltb, lit<}
 use lib.ListN.{length, take, drop}
 use lib.Ieee.{Float}
+use denote.Ref.{RefT, ptr, now}
 use Rattle.numbers.specs.Words.{whenDone}
 use Rattle.numbers.specs.Tests.{passed, kept}
 use Rattle.packed.specs.declared.Levels.{Levels}
@@ -19,7 +20,7 @@ use Rattle.packed.specs.Follow.{part-is}
 use Rattle.packed.specs.Tested.{done-alone, held-done}
 use Rattle.level_parts.specs.declared.Handing.{Handing}
 use Rattle.level_parts.specs.declared.Handing.the-variants as handing
-use Rattle.level_parts.specs.Parts.{handingNumber, handingOf, HandedOut}
+use Rattle.level_parts.specs.Parts.{handingNumber, handingOf, addressOf, HandedOut}
 
 -- it is done where the tests before it are and the level is there, and nowhere else
 named-after : (h : Levels) (t : Bool) (level : ℕ) → whenDone (numberOf h) (cond t (handing.NoSuchLevel level) handing.Done) (handing.Refused h) ≡ handing.Done → (h ≡ Done) × (t ≡ false)
@@ -46,12 +47,18 @@ refused-after h t level n = go (numberOf h) refl t n
     go zero q false n = absurd (n refl)
     go (suc k) q t n = omega (arith, q)
 
-pub handed-none : {n f levels level : ℕ} {packed : List Float} (r : Handing) → r ≡ handingOf n f levels (length packed) level → (r ≡ handing.Done → ⊥) → HandedOut n f levels level packed []
-unfolding handingOf
-handed-none {n} {f} {levels} {level} {packed} r e h =
-    record { handed = kept _ (refused-after (heldOf n f levels (length packed)) (ltb (levelsOf levels) level) level (λ q. h (e ∙ q))) (partAt n f levels packed level) [] }
+module _ {n f levels level : ℕ} {packed part : RefT (List Float)} where
+  pub handed-none : (r : Handing) → r ≡ handingOf n f levels (length (now packed)) level → (r ≡ handing.Done → ⊥) → now part ≡ [] → ptr part ≡ addressOf (ptr packed) 0
+      → HandedOut n f levels level packed part
+  unfolding handingOf
+  handed-none r e h none front =
+      let k = refused-after (heldOf n f levels (length (now packed))) (ltb (levelsOf levels) level) level (λ q. h (e ∙ q)) in
+      record { handed = none ∙ kept _ k (partAt n f levels (now packed) level) []; lies = front ∙ ap (addressOf (ptr packed)) (kept _ k (levelStart n f levels level) 0) }
 
-pub handed-part : (n f levels level start count : ℕ) (packed : List Float) → handingOf n f levels (length packed) level ≡ handing.Done → start ≡ levelStart n f levels level → count ≡ levelCount n f levels level
-    → HandedOut n f levels level packed (take (start + count - start) (drop start packed))
-handed-part n f levels level start count packed e p q =
-    record { handed = part-is n f levels level start count packed p q ∙ sym (ap (λ (r : Handing). whenDone (handingNumber r) (partAt n f levels packed level) []) e) }
+  pub handed-part : {start count : ℕ} → handingOf n f levels (length (now packed)) level ≡ handing.Done → start ≡ levelStart n f levels level → count ≡ levelCount n f levels level
+      → now part ≡ take (start + count - start) (drop start (now packed)) → ptr part ≡ addressOf (ptr packed) start → HandedOut n f levels level packed part
+  handed-part {start} {count} e p q there place =
+      record {
+        handed = there ∙ part-is n f levels level start count (now packed) p q ∙ sym (ap (λ (r : Handing). whenDone (handingNumber r) (partAt n f levels (now packed) level) []) e);
+        lies = place ∙ ap (addressOf (ptr packed)) (p ∙ sym (ap (λ (r : Handing). whenDone (handingNumber r) (levelStart n f levels level) 0) e));
+      }

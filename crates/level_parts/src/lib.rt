@@ -42,7 +42,7 @@ pub fn level_details<'a>(
     levels: usize,
     level: usize,
 ) -> &'a [f64]
-    ensures { λ r. ⌜ HandedOut n f levels level (now (packed .entry)) (now r) ⌝ }
+    ensures { λ r. ⌜ HandedOut n f levels level (packed .entry) r ⌝ }
 {
     let Handing::Done = handing_answer(n, f, levels, packed.len(), level) else {
         return &packed[0..0];

@@ -12,7 +12,7 @@ use Rattle.level_sizes.specs.declared.LevelSize.the-variants as size
 use Rattle.level_sizes.specs.declared.LevelPart.{LevelPart}
 use Rattle.level_sizes.specs.declared.LevelPart.the-variants as part
 
--- document 01's number of an answer, and the values that it carries
+-- the number of an answer, and the values that it carries (RULES, Numbers)
 abbrev pub sizeNumber : LevelSize → ℕ
 sizeNumber (size.Length l) = 0
 sizeNumber (size.Refused a) = numberOf a

@@ -9,6 +9,7 @@ ghost use Rattle.levels.specs.Lines.{packedLine, paddedLines};
 ghost use Rattle.levels.specs.Works.{lineHeld, Held, Splitting};
 use analysis::work::bands_beside;
 use analysis::work::pad_line;
+use bank::lengths::dwt_length;
 use border::Border;
 
 // The line of level k + 1, padded: the line itself for the first, else the n approximations in the packed buffer.
@@ -53,7 +54,7 @@ pub fn split<'a>(
     let mut k = 0usize;
     while k < levels {
         pad_level(f, border, line, packed, k, start, n, scratch);
-        n = (n + f - 1) / 2;
+        n = dwt_length(n, f);
         let end = start + (n + n);
         bands_beside(low, high, f, scratch, &mut packed[start..end], n);
         start += n;

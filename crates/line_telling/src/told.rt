@@ -1,6 +1,4 @@
 // An answer told as its number, and what it carries in lent words; words that carry nothing stay.
-ghost use mathlib.Core.Path.{_≡_};
-ghost use Rattle.bank.specs.Banks as Banks;
 ghost use Rattle.bank.specs.Sizes as Sizes;
 ghost use Rattle.convolution.specs.Sizes as Scratches;
 ghost use Rattle.analysis.specs.Analyses as Analyses;
@@ -8,23 +6,12 @@ ghost use Rattle.synthesis.specs.Syntheses as Syntheses;
 ghost use Rattle.convolution.specs.Convolutions as Convolutions;
 ghost use Rattle.telling.specs.Told.{Told};
 use analysis::Analysis;
-use bank::making::Making;
 use bank::sizes::Size;
 use convolution::Convolution;
 use convolution::pads::Scratch;
 use synthesis::Synthesis;
 use telling::told::one;
 use telling::told::two;
-
-// Neither case carries anything, so no words are lent.
-pub fn making(answer: Making) -> u64
-    ensures { λ r. ⌜ r ≡ Banks.numberOf answer ⌝ }
-{
-    match answer {
-        Making::Done => 0,
-        Making::Taps => 12,
-    }
-}
 
 pub fn size(answer: Size, carried: &mut [usize; 2]) -> u64
     ensures { λ r. ⌜ Told (Sizes.numberOf answer) (Sizes.valuesOf answer) (now (carried .entry)) r (now (carried .exit)) ⌝ }

@@ -3,4 +3,5 @@ pub mod Words
 pub mod Write
 pub mod Places
 pub mod Runs
+pub mod Copies
 pub mod Tests

@@ -3,7 +3,7 @@ use mathlib.Core.Path.{_≡_, refl, sym, ap, _∙_, subst}
 use mathlib.Core.Bool.{Bool, true, false, true≢false, cond, not, _||_, _&&_}
 use lib.Dec.{T}
 use lib.Ieee.{Float, nan, inf, fin, Format, binary32, binary64, ofBits, ne, isNan}
-use Rattle.numbers.specs.Words.{plusZero, whenDone}
+use Rattle.numbers.specs.Words.{plusZero, whenDone, andThen}
 use Prim.Native.Nat.{_<_, suc, zero, ℕ}
 use mathlib.Core.Logic.{_⊎_, ⊎-elim}
 use native.Mathlib.Omega.{arith}
@@ -68,15 +68,6 @@ pub key-above : (more k n : ℕ) → 0 < k → Keys more k n → 0 < n
 key-above zero k n h e = omega arith
 key-above (suc more) k n h e = ⊎-elim (λ q. omega arith) (λ q. key-above more (suc k) n (omega arith) q) e
 
--- a lent thing by another name of the number, its new value another wherever that is written
-pub done-as : {A : Type 0} {number r : ℕ} {x : A} (new new′ old : A) → r ≡ number → x ≡ whenDone number new old → (number ≡ 0 → new ≡ new′)
-    → x ≡ whenDone r new′ old
-done-as {A} {number} {r} {x} new new′ old e q h = q ∙ alike number h ∙ ap (λ (k : ℕ). whenDone k new′ old) (sym e)
-  where
-    alike : (number : ℕ) → (number ≡ 0 → new ≡ new′) → whenDone number new old ≡ whenDone number new′ old
-    alike zero h = h refl
-    alike (suc number) h = refl
-
 -- where it is done a lent thing is new
 pub renewed : {A : Type 0} {number : ℕ} {x : A} (new old : A) → number ≡ 0 → x ≡ whenDone number new old → x ≡ new
 renewed new old e q = q ∙ ap (λ (k : ℕ). whenDone k new old) e
@@ -96,7 +87,7 @@ module _ {A : Type 0} (number : A → ℕ) {done : A} where
   went-on-by z new old e q = q ∙ sym (ap (λ (k : ℕ). whenDone k new old) (ap number e ∙ z))
 
   -- both are done where the second is after the first
-  pub both-done-by : ((r : A) → number r ≡ 0 → r ≡ done) → number done ≡ 0 → (a b : A) → whenDone (number a) b a ≡ done → (a ≡ done) × (b ≡ done)
+  pub both-done-by : ((r : A) → number r ≡ 0 → r ≡ done) → number done ≡ 0 → (a b : A) → andThen number a b ≡ done → (a ≡ done) × (b ≡ done)
   both-done-by alone z a b e = go (number a) refl e
     where
       go : (k : ℕ) → number a ≡ k → whenDone k b a ≡ done → (a ≡ done) × (b ≡ done)

@@ -2,7 +2,7 @@
 use mathlib.Core.Bool.{false}
 use mathlib.Core.List.{List, [], _∷_, _++_}
 use Prim.Native.Nat.{ℕ, zero, suc, _+_}
-use lib.ListN.{getD, take, drop}
+use lib.ListN.{length, getD, take, drop}
 use lib.IntN.{pos}
 use lib.Ieee.{Float, fin, nan}
 
@@ -27,6 +27,10 @@ abbrev pub whenDone : {A : Type 0} → ℕ → A → A → A
 whenDone zero new old = new
 whenDone (suc number) new old = old
 
+-- tests that come after others, of answers with their numbers: where those are done, what these say
+abbrev pub andThen : {A : Type 0} → (A → ℕ) → A → A → A
+andThen number before after = whenDone (number before) after before
+
 module _ {A : Type 0} where
   -- g 0, g 1 and so on, n of them
   unfoldable pub tab : (ℕ → A) → ℕ → List A
@@ -45,6 +49,10 @@ module _ {A : Type 0} where
   -- the same as g has them by their own places
   abbrev pub replaced : (ℕ → A) → ℕ → ℕ → List A → List A
   replaced g s n x = placed (λ k. g (s + k)) s n x
+
+  -- a buffer that begins with l, which it has room for, and is as it was beyond
+  abbrev pub headed : List A → List A → List A
+  headed l x = l ++ drop (length l) x
 
 -- n places of +0
 abbrev pub cleared : ℕ → List Float

@@ -1,4 +1,6 @@
-// Numbers that every crate works with; specs/ has the words and laws that they cite.
+// Numbers that every crate works with, and copies of lists; specs/ has the words and laws that they cite.
+pub mod copying;
+
 ghost use mathlib.Core.Path.{_≡_};
 ghost use Prim.Native.Nat.{_-_, min, max};
 

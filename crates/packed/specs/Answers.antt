@@ -5,13 +5,13 @@ use Prim.Native.Nat.{ℕ}
 use lib.Dec.{ltb, eqb}
 use lib.ListN.{take, drop}
 use lib.Ieee.{Float}
-use Rattle.numbers.specs.Words.{longest, whenDone}
+use Rattle.numbers.specs.Words.{longest, andThen}
 use Rattle.bank.specs.Lengths.{badTaps}
 use Rattle.packed.specs.declared.Levels.{Levels}
 use Rattle.packed.specs.declared.Levels.the-variants.{Done, MinFilterSize, ScratchSize, BufferWasTooSmallForLevel, InputSize, Limit, Taps}
 use Rattle.packed.specs.Lengths.{levelsOf, tooShort, packedLength, levelStart, levelCount}
 
--- document 01's number of an answer, and the values that it carries
+-- the number of an answer, and the values that it carries (RULES, Numbers)
 abbrev pub numberOf : Levels → ℕ
 numberOf Done = 0
 numberOf (MinFilterSize n f) = 1
@@ -30,10 +30,6 @@ valuesOf (InputSize need have) = need ∷ have ∷ []
 valuesOf Limit = []
 valuesOf Taps = []
 
--- tests that come after others: where those are done, what these say
-abbrev pub andThen : Levels → Levels → Levels
-andThen before after = whenDone (numberOf before) after before
-
 -- 12, 11, then 1 for one level or 9 for more
 unfoldable pub askedOf : ℕ → ℕ → ℕ → Levels
 askedOf n f levels =
@@ -44,7 +40,7 @@ askedOf n f levels =
 
 -- and 10 for a packed buffer of p
 unfoldable pub heldOf : ℕ → ℕ → ℕ → ℕ → Levels
-heldOf n f levels p = andThen (askedOf n f levels) (cond (not (eqb p (packedLength n f levels))) (InputSize (packedLength n f levels) p) Done)
+heldOf n f levels p = andThen numberOf (askedOf n f levels) (cond (not (eqb p (packedLength n f levels))) (InputSize (packedLength n f levels) p) Done)
 
 -- a level's part of a packed buffer
 abbrev pub partAt : ℕ → ℕ → ℕ → List Float → ℕ → List Float

@@ -10,9 +10,8 @@ use native.Mathlib.Omega.{arith}
 use borrow.Author.Tests.{ltb-false, lt-ltb, le-ltb}
 use lib.Dec.{ltb}
 use Rattle.numbers.specs.Tests.{neither, cond-true, cond-false}
-use Rattle.bank.specs.Lengths.{pairs, paddedLength, GoodTaps}
+use Rattle.bank.specs.Lengths.{pairs, paddedLength, GoodTaps, Sound}
 use Rattle.packed.specs.Lengths.{lineAfter, tooShort, detailsTo, longLines, mostLevels}
-use Rattle.packed.specs.Works.{Sound}
 
 -- ---- one level more
 pub line-none : (n f : ℕ) → n ≡ lineAfter n f 0

@@ -6,16 +6,16 @@ use native.Mathlib.Decide.{decLt}
 use native.Mathlib.Omega.{arith}
 use borrow.Author.Tests.{eqb-true, ltb-false, not-false}
 use lib.Dec.{eqb, ltb, lit<}
-use Rattle.numbers.specs.Words.{longest, whenDone}
+use Rattle.numbers.specs.Words.{longest, whenDone, andThen}
 use Rattle.numbers.specs.Tests.{passed, stopped-by, went-on-by, both-done-by}
-use Rattle.bank.specs.Lengths.{badTaps, pairs, Analysable}
+use Rattle.bank.specs.Lengths.{badTaps, pairs, Sound, Analysable}
 use Rattle.bank.specs.Tested.{good-taps}
 use Rattle.packed.specs.declared.Levels.{Levels}
 use Rattle.packed.specs.declared.Levels.the-variants.{Done, MinFilterSize, ScratchSize, BufferWasTooSmallForLevel, InputSize, Limit, Taps}
 use Rattle.packed.specs.declared.depth.Depth.{Depth}
 use Rattle.packed.specs.Lengths.{levelsOf, lineAfter, tooShort, detailsTo, packedLength, levelStart, levelCount, mostLevels}
-use Rattle.packed.specs.Answers.{numberOf, andThen, askedOf, heldOf}
-use Rattle.packed.specs.Works.{Sound, Split, Named, Filled, Down}
+use Rattle.packed.specs.Answers.{numberOf, askedOf, heldOf}
+use Rattle.packed.specs.Works.{Split, Named, Filled, Down}
 use Rattle.packed.specs.Falls.{line-none, long-before, all-before, short-at, fallen, most-levels}
 
 -- 0 is the number of done alone
@@ -29,7 +29,7 @@ done-alone Limit e = absurd (omega arith)
 done-alone Taps e = absurd (omega arith)
 
 -- both tests are done where the second is after the first
-pub both-done : (a b : Levels) → andThen a b ≡ Done → (a ≡ Done) × (b ≡ Done)
+pub both-done : (a b : Levels) → andThen numberOf a b ≡ Done → (a ≡ Done) × (b ≡ Done)
 both-done = both-done-by numberOf done-alone refl
 
 -- 1 and 9 are refusals

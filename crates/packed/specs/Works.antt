@@ -2,17 +2,11 @@
 use mathlib.Core.Path.{_≡_}
 use mathlib.Core.Bool.{false}
 use Prim.Native.Nat.{ℕ, _+_, _≤_, _<_}
-use Rattle.numbers.specs.Words.{longest}
-use Rattle.bank.specs.Lengths.{GoodTaps}
+use Rattle.bank.specs.Lengths.{Sound}
 use Rattle.packed.specs.declared.depth.Depth.{Depth}
 use Rattle.packed.specs.Lengths.{levelsOf, lineAfter, tooShort, detailsTo}
 
--- n samples and f taps past 12 and 11
-pub record Sound (n f : ℕ) : Type 0 where
-  pub taps : GoodTaps f
-  pub limit : n ≤ longest
-
--- and past 1 and 9: each of so many levels has a line to split
+-- n samples and f taps past 12, 11, 1 and 9: each of so many levels has a line to split
 pub record Split (n f levels : ℕ) : Type 0 where
   pub sound : Sound n f
   pub long : tooShort n f (levelsOf levels) ≡ false

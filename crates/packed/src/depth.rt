@@ -1,8 +1,11 @@
 // How far down a line goes, and where that leads in the packed buffer; taps and samples have been tested.
 ghost use mathlib.Core.Path.{_≡_};
 ghost use Rattle.packed.specs.Lengths.{packedLength, levelStart, levelCount, levelsScratch, restoringLength};
-ghost use Rattle.bank.specs.Lengths.{Analysable};
-ghost use Rattle.packed.specs.Works.{Sound, Split, Named, Down};
+ghost use Rattle.bank.specs.Lengths.{Sound, Analysable};
+ghost use Rattle.packed.specs.Works.{Split, Named, Down};
+use bank::lengths::dwt_length;
+use bank::lengths::idwt_length;
+use bank::lengths::padded_length;
 use numbers::most;
 
 // So many levels, the details that they have together, and the line that they leave.
@@ -21,7 +24,7 @@ pub fn down(n: usize, f: usize, levels: usize) -> Depth
     let mut details = 0usize;
     let mut line = n;
     while k < levels && f <= line {
-        line = (line + f - 1) / 2;
+        line = dwt_length(line, f);
         details += line;
         k += 1;
     }
@@ -46,8 +49,8 @@ pub fn scratch_need(n: usize, f: usize) -> usize
     requires { ⌜ Sound n f ⌝ }
     ensures { λ r. ⌜ r ≡ levelsScratch n f ⌝ }
 {
-    let m = (n + f - 1) / 2;
-    2 * m + f - 2 + 2 * m
+    let m = dwt_length(n, f);
+    padded_length(m, f) + 2 * m
 }
 
 // How long each work buffer of restoring has to be.
@@ -55,8 +58,7 @@ pub fn restoring_need(n: usize, f: usize) -> usize
     requires { ⌜ Analysable n f ⌝ }
     ensures { λ r. ⌜ r ≡ restoringLength n f ⌝ }
 {
-    let m = (n + f - 1) / 2;
-    2 * m + 2 - f
+    idwt_length(dwt_length(n, f), f)
 }
 
 // Where a part of the packed buffer begins, and how many numbers it has.
@@ -79,6 +81,6 @@ pub fn part_of(n: usize, f: usize, levels: usize, level: usize) -> Part
     let above = down(n, f, level - 1);
     Part {
         start: above.details,
-        count: (above.line + f - 1) / 2,
+        count: dwt_length(above.line, f),
     }
 }

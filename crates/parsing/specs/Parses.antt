@@ -7,14 +7,13 @@ use lib.Dec.{ltb}
 use lib.ListN.{length}
 use lib.IntN.{ℤ}
 use lib.Ieee.{Float, binary64}
-use Rattle.numbers.specs.Words.{whenDone}
+use Rattle.numbers.specs.Words.{whenDone, headed}
 use Rattle.whole.specs.Floats.{floats}
-use Rattle.texts.specs.Laying.{headed}
 use Rattle.texts.specs.Texts.{Request, Stands}
 use Rattle.parsing.specs.declared.Parsed.{Parsed}
 use Rattle.parsing.specs.declared.Parsed.the-variants as parsed
 
--- document 01's number of an answer, and the values that it carries
+-- the number of an answer, and the values that it carries (RULES, Numbers)
 abbrev pub numberOf : Parsed → ℕ
 numberOf (parsed.Request border low high samples) = 0
 numberOf (parsed.InputSize need have) = 10

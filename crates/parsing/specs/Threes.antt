@@ -12,7 +12,7 @@ use lib.Ieee.{Float}
 use Rattle.texts.specs.Laying.{laid}
 use Rattle.texts.specs.Laid.{laid-lent}
 use Rattle.parsing.specs.declared.lists.Lists.{Lists}
-use Rattle.parsing.specs.Steps.{Got, gotOf, LineRead, emptied, three, ListsRead}
+use Rattle.parsing.specs.Steps.{Got, gotOf, LineRead, emptied, ListsRead}
 use Rattle.modes.specs.Fronts.{drop-at}
 
 at-end : (text : List ℕ) (n : ℕ) → n ≤ length text → eqb n (length text) ≡ emptied (drop n text)

@@ -2,6 +2,7 @@
 ghost use mathlib.Core.Path.{_≡_};
 ghost use Prim.Native.Nat.{_≤_, _+_, _<_};
 ghost use lib.ListN.{length};
+ghost use Rattle.texts.specs.Texts.{longestText};
 ghost use Rattle.parsing.specs.Steps.{separates, numberBy, endedBy, keptOn, LineRead};
 use phases::Phase;
 use phases::closed;
@@ -26,7 +27,7 @@ fn separates(c: u8) -> bool
 
 // A number that has ended goes to its place, if the buffer reaches there; answers how many there are then.
 fn keep_number(negative: bool, size: u32, c: u8, out: &mut [f64], count: usize) -> usize
-    requires { ⌜ count < 4096 ⌝ }
+    requires { ⌜ count < longestText ⌝ }
     ensures { λ r. ⌜ (r ≡ count + length (numberBy negative size c)) × (now (out .exit) ≡ keptOn (numberBy negative size c) (now (out .entry)) count) ⌝ }
 {
     if !separates(c) {
@@ -40,7 +41,7 @@ fn keep_number(negative: bool, size: u32, c: u8, out: &mut [f64], count: usize) 
 }
 
 fn keep(phase: Phase, c: u8, out: &mut [f64], count: usize) -> usize
-    requires { ⌜ count < 4096 ⌝ }
+    requires { ⌜ count < longestText ⌝ }
     ensures { λ r. ⌜ (r ≡ count + length (endedBy phase c)) × (now (out .exit) ≡ keptOn (endedBy phase c) (now (out .entry)) count) ⌝ }
 {
     match phase {
@@ -55,7 +56,7 @@ fn keep(phase: Phase, c: u8, out: &mut [f64], count: usize) -> usize
 
 // The line that begins at `from`, its numbers as far as `out` reaches.
 pub fn read_line(text: &[u8], from: usize, out: &mut [f64]) -> Line
-    requires { ⌜ (from ≤ length (now text)) × (length (now text) ≤ 4096) ⌝ }
+    requires { ⌜ (from ≤ length (now text)) × (length (now text) ≤ longestText) ⌝ }
     ensures { λ r. ⌜ LineRead (now (text .entry)) from (now (out .entry)) (r .closed) (r .next) (r .count) (now (out .exit)) ⌝ }
 {
     let mut phase = Phase::Fresh;

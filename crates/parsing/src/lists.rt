@@ -3,6 +3,7 @@ ghost use mathlib.Core.Path.{_≡_};
 ghost use mathlib.Core.Bool.{_&&_};
 ghost use Prim.Native.Nat.{_≤_};
 ghost use lib.ListN.{length};
+ghost use Rattle.texts.specs.Texts.{longestText};
 ghost use Rattle.parsing.specs.Steps.{ListsRead};
 use crate::line::read_line;
 use numbers::least;
@@ -30,7 +31,7 @@ fn complete(low: bool, high: bool, samples: bool, end: bool) -> bool
 
 // Their numbers go one behind another, as far as `out` reaches.
 pub fn read_lists(text: &[u8], from: usize, out: &mut [f64]) -> Lists
-    requires { ⌜ (from ≤ length (now text)) × (length (now text) ≤ 4096) ⌝ }
+    requires { ⌜ (from ≤ length (now text)) × (length (now text) ≤ longestText) ⌝ }
     ensures { λ r. ⌜ ListsRead (now (text .entry)) from (now (out .entry)) r (now (out .exit)) ⌝ }
 {
     let have = out.len();

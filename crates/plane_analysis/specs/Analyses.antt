@@ -6,18 +6,18 @@ use Prim.Native.Nat.{ℕ}
 use lib.Dec.{ltb}
 use lib.ListN.{length}
 use lib.Ieee.{Float, binary64}
-use Rattle.numbers.specs.Words.{whenDone}
+use Rattle.numbers.specs.Words.{whenDone, andThen}
 use Rattle.border.specs.declared.Border.{Border}
 use Rattle.planes.specs.declared.Planes.{Planes}
 use Rattle.planes.specs.declared.Planes.the-variants.{MinFilterSize}
 use Rattle.planes.specs.Lengths.{bandLength, planeScratch}
-use Rattle.planes.specs.Answers.{numberOf, andThen, heldOf, bandsOf, Scratched}
+use Rattle.planes.specs.Answers.{numberOf, heldOf, bandsOf, Scratched}
 use Rattle.plane_analysis.specs.Bands.{planeBand}
 
 -- 12, 7, 11, 10 for the plane, 10 for the scratch, then 1 for the width, 1 for the height, and 2 for each band in turn
 unfoldable pub answerOf : ℕ → ℕ → ℕ → ℕ → ℕ → ℕ → ℕ → ℕ → ℕ → Planes
 answerOf w h f p s ll lh hl hh =
-    andThen (heldOf w h f p s)
+    andThen numberOf (heldOf w h f p s)
     (cond (ltb w f) (MinFilterSize w f)
     (cond (ltb h f) (MinFilterSize h f)
     (bandsOf (bandLength w h f) ll lh hl hh)))

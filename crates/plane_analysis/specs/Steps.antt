@@ -8,12 +8,11 @@ use lib.ListN.{length, take, drop, length-append, length-drop, take-append-drop,
 use lib.Seq.{length-take-le, take-add, drop-drop, drop-nil, getD-append-add}
 use lib.Ieee.{Float, nan, Format}
 use borrow.Rule.Slice.PartMut.{putMid}
-use Rattle.numbers.specs.Words.{plusZero, at, tab, written, placed}
+use Rattle.numbers.specs.Words.{at, tab, written, placed}
 use Rattle.numbers.specs.Write.{tab-getD, length-written, length-placed, take-placed, part-placed}
 use Rattle.numbers.specs.Places.{lent-length, take-lent, part-lent, drop-lent, drop-behind, front-at, part-ext}
 use Rattle.border.specs.declared.Border.{Border}
-use Rattle.border.specs.Rule.{padded}
-use Rattle.bank.specs.Lengths.{pairs, paddedLength}
+use Rattle.bank.specs.Lengths.{pairs, spanned, paddedLength}
 use Rattle.analysis.specs.Lines.{paddedAt, paddedInto, band}
 use Rattle.analysis.specs.Works.{bandOf, bothPlaced}
 use Rattle.analysis.specs.Taps.{length-band, of-samples}
@@ -43,7 +42,7 @@ module _ (g : Format) (low high : List Float) (F : ℕ) (b : Border) (plane : Li
   rowed-none end x = record { long = refl; front = ap (λ (n : ℕ). take n x) (let z : 0 * (m + m) ≡ 0 = omega arith in z) ∙ sym (stored-none both); beyond = refl }
 
   -- one row more: zs is its padded line, which the scratch s takes from `start` on and so becomes t; u has its bands as well
-  module _ (r start end : ℕ) (x s zs u line rest : List Float) (l : r < h) (two : 2 ≤ F) (ee : end ≡ start + (2 * m + F - 2)) (before : h * (m + m) ≤ start) (room : end ≤ length x)
+  module _ (r start end : ℕ) (x s zs u line rest : List Float) (l : r < h) (two : 2 ≤ F) (ee : end ≡ start + spanned m F) (before : h * (m + m) ≤ start) (room : end ≤ length x)
       (p : Rowed g low high F b plane w r m end x s) (el : line ≡ lineOf w plane r) (lr : length rest ≡ end - start) (pad : zs ≡ paddedInto F b line rest)
       (eu : u ≡ bothPlaced g low high F start (r * (m + m)) m (putMid start (end - start) s zs)) where
     abbrev t : List Float
@@ -68,10 +67,10 @@ module _ (g : Format) (low high : List Float) (F : ℕ) (b : Border) (plane : Li
     length-t = lent-length nan start end s zs rising inside length-pad
 
     -- the padded line is read where it was put
-    held : take (2 * m + F - 2) (drop start t) ≡ zs
-    held = ap (λ (n : ℕ). take n (drop start t)) (let z : 2 * m + F - 2 ≡ end - start = omega (arith, ee) in z) ∙ part-lent nan start end s zs rising inside length-pad
+    held : take (spanned m F) (drop start t) ≡ zs
+    held = ap (λ (n : ℕ). take n (drop start t)) (let z : spanned m F ≡ end - start = omega (arith, ee) in z) ∙ part-lent nan start end s zs rising inside length-pad
 
-    made : (taps : List Float) → tab (bandOf g taps F (take (2 * m + F - 2) (drop start t))) m ≡ rowBand g taps F b plane w r
+    made : (taps : List Float) → tab (bandOf g taps F (take (spanned m F) (drop start t))) m ≡ rowBand g taps F b plane w r
     made taps =
         ap (λ (y : List Float). tab (bandOf g taps F y) m) held
         ∙ ap (tab (bandOf g taps F zs)) (sym row-pairs)
@@ -82,7 +81,7 @@ module _ (g : Format) (low high : List Float) (F : ℕ) (b : Border) (plane : Li
     eu′ : u ≡ placed (at (both r)) (r * (m + m)) (m + m) t
     eu′ =
         eu
-        ∙ ap (λ (y : List Float). placed (at (y ++ tab (bandOf g high F (take (2 * m + F - 2) (drop start t))) m)) (r * (m + m)) (m + m) t) (made low)
+        ∙ ap (λ (y : List Float). placed (at (y ++ tab (bandOf g high F (take (spanned m F) (drop start t))) m)) (r * (m + m)) (m + m) t) (made low)
         ∙ ap (λ (y : List Float). placed (at (rowBand g low F b plane w r ++ y)) (r * (m + m)) (m + m) t) (made high)
 
     fits : r * (m + m) + (m + m) ≤ length t
@@ -114,9 +113,9 @@ unfolding written
 none G n = sym (ap (λ (y : List Float). tab G n ++ y) (drop-nil n) ∙ append-nil (tab G n))
 
 -- one column more: s′ has its padded line from `start` on, and the part lent of a band takes the column's band
-module _ (g : Format) (taps : List Float) (F : ℕ) (b : Border) (base m h start end c : ℕ) (x s s′ : List Float) (l : c < m) (two : 2 ≤ F) (enough : F ≤ h)
+module _ (g : Format) (taps : List Float) (F : ℕ) (b : Border) (base m h start end c : ℕ) (x s s′ : List Float) (l : c < m)
     (ee : end ≡ start + paddedLength h F) (before : base + m * h ≤ start) (room : end ≤ length x) (p : Still start end x s)
-    (es : s′ ≡ placed (padded plusZero b (take h (drop (base + c * h) s)) (F - 2)) start (F - 2 + h + (2 * pairs h F - h)) s) where
+    (es : s′ ≡ placed (paddedAt F b (take h (drop (base + c * h) s))) start (paddedLength h F) s) where
   abbrev column : List Float
   column = lineOf h (drop base x) c
 
@@ -129,13 +128,8 @@ module _ (g : Format) (taps : List Float) (F : ℕ) (b : Border) (base m h start
   length-column : length column ≡ h
   length-column = length-take-le h (drop (c * h) (drop base x)) (omega (arith, length-drop (c * h) (drop base x), length-drop base x, line-end h l, before, room, ee))
 
-  whole : F - 2 + h + (2 * pairs h F - h) ≡ paddedLength h F
-  whole = omega (arith, two, enough)
-
   es′ : s′ ≡ placed (paddedAt F b column) start (paddedLength h F) s
-  es′ =
-      es ∙ ap (λ (y : List Float). placed (padded plusZero b y (F - 2)) start (F - 2 + h + (2 * pairs h F - h)) s) same
-      ∙ ap (λ (n : ℕ). placed (paddedAt F b column) start n s) whole
+  es′ = es ∙ ap (λ (y : List Float). placed (paddedAt F b y) start (paddedLength h F) s) same
 
   padded-fits : start + paddedLength h F ≤ length s
   padded-fits = omega (arith, ee, room, p .long)

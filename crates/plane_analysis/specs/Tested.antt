@@ -1,5 +1,5 @@
 -- Laws of the tests and of the whole: an answer is done where every test passed, which gives each part of the work what it asks for, and the parts together are the four bands.
-use mathlib.Core.Path.{_≡_, refl, ap, _∙_}
+use mathlib.Core.Path.{_≡_, refl, ap, sym, _∙_}
 use Prim.Native.Nat.{ℕ, _+_, _*_, _≤_}
 use native.Mathlib.Nat.{mul-comm}
 use native.Mathlib.Omega.{arith}
@@ -37,15 +37,12 @@ analysing w h f p s ll lh hl hh e =
     }
 
 -- ---- the parts of the work, in a scratch of s: rows from its front, their crossing, and from `start` on a padded line
-module _ {w h f p s ll lh hl hh : ℕ} (a : Analysing w h f p s ll lh hl hh) where
-  abbrev m : ℕ
-  m = pairs w f
-
+module _ {w h f p s ll lh hl hh : ℕ} (a : Analysing w h f p s ll lh hl hh) (m : ℕ) (em : m ≡ pairs w f) where
   abbrev start : ℕ
   start = h * (m + m) + h * (m + m)
 
-  four : start ≡ 4 * (m * h)
-  four = omega (arith, area-halves h m)
+  four : start ≡ 4 * (pairs w f * h)
+  four = omega (arith, area-halves h m, ap (λ (k : ℕ). k * h) em)
 
   pub room : (start + paddedLength w f ≤ s) × (start + paddedLength h f ≤ s)
   room = (omega (arith, four, a .held .room), omega (arith, four, a .held .room))
@@ -54,7 +51,7 @@ module _ {w h f p s ll lh hl hh : ℕ} (a : Analysing w h f p s ll lh hl hh) whe
   rowing = record {
     ready = record { taps = a .held .sides .taps; limit = a .held .sides .across; enough = a .wide };
     filled = a .held .filled ∙ mul-comm w h;
-    many = refl;
+    many = em;
     before = omega arith;
     room = room .0;
   }
@@ -65,11 +62,14 @@ module _ {w h f p s ll lh hl hh : ℕ} (a : Analysing w h f p s ll lh hl hh) whe
   pub columning : (base : ℕ) {s′ lo hi : ℕ} → base + m * h ≤ start → s′ ≡ s → lo ≡ bandLength w h f → hi ≡ bandLength w h f → Columning f base m h start s′ lo hi
   columning base before e lows highs = record {
     ready = record { taps = a .held .sides .taps; limit = a .held .sides .down; enough = a .high };
-    lows = lows;
-    highs = highs;
+    lows = lows ∙ columns;
+    highs = highs ∙ columns;
     before = before;
     room = omega (arith, e, room);
   }
+    where
+      columns : bandLength w h f ≡ m * pairs h f
+      columns = ap (λ (k : ℕ). k * pairs h f) (sym em)
 
   -- all of it: rows, their crossing, and the columns of either half of it
   module _ (g : Format) (low high : List Float) (b : Border) (plane x s₁ s₂ s₃ s₄ bll blh bhl bhh : List Float) (ep : length plane ≡ p) (ex : length x ≡ s)
@@ -92,10 +92,10 @@ module _ {w h f p s ll lh hl hh : ℕ} (a : Analysing w h f p s ll lh hl hh) whe
         → bhl ≡ lineBands g low f b (h * (m + m) + m * h) m h s₃ → bhh ≡ lineBands g high f b (h * (m + m) + m * h) m h s₃
         → Split g low high f b plane w h x bll blh bhl bhh s₄
     split e₁ e₂ e₃ e₄ = record {
-      lls = e₁ ∙ low-bands g low high f b plane w h m refl filled s₁ s₂ s₂ (r .front) w₁ c refl refl low;
-      lhs = e₂ ∙ low-bands g low high f b plane w h m refl filled s₁ s₂ s₂ (r .front) w₁ c refl refl high;
-      hls = e₃ ∙ high-bands g low high f b plane w h m refl filled s₁ s₂ s₃ (r .front) w₁ c (t .long) (t .front) low;
-      hhs = e₄ ∙ high-bands g low high f b plane w h m refl filled s₁ s₂ s₃ (r .front) w₁ c (t .long) (t .front) high;
+      lls = e₁ ∙ low-bands g low high f b plane w h m em filled s₁ s₂ s₂ (r .front) w₁ c refl refl low;
+      lhs = e₂ ∙ low-bands g low high f b plane w h m em filled s₁ s₂ s₂ (r .front) w₁ c refl refl high;
+      hls = e₃ ∙ high-bands g low high f b plane w h m em filled s₁ s₂ s₃ (r .front) w₁ c (t .long) (t .front) low;
+      hhs = e₄ ∙ high-bands g low high f b plane w h m em filled s₁ s₂ s₃ (r .front) w₁ c (t .long) (t .front) high;
       long = u .long ∙ t .long ∙ long ∙ r .long;
       beyond = far;
     }

@@ -8,7 +8,7 @@ use bank::Bank;
 use planes::Planes;
 use planes::bands_answer;
 use planes::held_answer;
-use planes::sizes::band_need;
+use planes::needs::band_need;
 
 // The tests, on lengths alone.
 pub fn plane_analysis_answer(

@@ -9,9 +9,11 @@ ghost use Rattle.plane_analysis.specs.Works.{lineBands, Rowing, Rowed, C
 use analysis::work::bands;
 use analysis::work::bands_within;
 use analysis::work::pad_line;
+use analysis::work::pad_line_within;
+use bank::lengths::dwt_length;
+use bank::lengths::padded_length;
 use border::Border;
-use border::pad::pad_within;
-use tables::cross;
+use tables::work::cross;
 
 // Both bands of each row.
 fn rows(
@@ -29,7 +31,7 @@ fn rows(
     requires { ⌜ Lent f (length (now low)) (length (now high)) × Rowing f width height m (length (now plane)) (length (now scratch)) start ⌝ }
     ensures { λ _. ⌜ Rowed binary64 (now (low .entry)) (now (high .entry)) f border (now (plane .entry)) width height m (start + paddedLength width f) (now (scratch .entry)) (now (scratch .exit)) ⌝ }
 {
-    let end = start + (2 * m + f - 2);
+    let end = start + padded_length(m, f);
     let mut r = 0usize;
     while r < height {
         let from = r * width;
@@ -59,19 +61,11 @@ fn columns(
         × (now (hi .exit) ≡ lineBands binary64 (now (high .entry)) f border base m height (now (scratch .entry)))
         × Still start (start + paddedLength height f) (now (scratch .entry)) (now (scratch .exit)) ⌝ }
 {
-    let b = (height + f - 1) / 2;
-    let end = start + (2 * b + f - 2);
+    let b = dwt_length(height, f);
+    let end = start + padded_length(b, f);
     let mut c = 0usize;
     while c < m {
-        pad_within(
-            border,
-            scratch,
-            base + c * height,
-            height,
-            start,
-            f - 2,
-            2 * b - height,
-        );
+        pad_line_within(f, border, scratch, base + c * height, height, start);
         let from = c * b;
         let to = from + b;
         bands(
@@ -105,7 +99,7 @@ pub fn split_plane<'a>(
     ensures { λ _. ⌜ Split binary64 (now (low .entry)) (now (high .entry)) f border (now (plane .entry)) width height (now (scratch .entry))
         (now (ll .exit)) (now (lh .exit)) (now (hl .exit)) (now (hh .exit)) (now (scratch .exit)) ⌝ }
 {
-    let m = (width + f - 1) / 2;
+    let m = dwt_length(width, f);
     let area = height * (m + m);
     let start = area + area;
     rows(

@@ -2,14 +2,9 @@
 use mathlib.Core.List.{List}
 use Prim.Native.Nat.{ℕ}
 use lib.Ieee.{Float, Format}
-use Rattle.numbers.specs.Words.{cleared}
 use Rattle.bank.specs.Lengths.{pairs}
-use Rattle.synthesis.specs.Lines.{synthesised}
+use Rattle.synthesis.specs.Lines.{joinOf}
 use Rattle.tables.specs.Tables.{lineOf, stored, crossing}
-
--- two lines of bands joined into n places from +0
-abbrev pub joinOf : Format → ℕ → List Float → List Float → ℕ → List Float → List Float → List Float
-joinOf g F low high n a d = synthesised g F low high a d (cleared n)
 
 -- the columns joined, h tall: a table with the join of column c of two bands
 abbrev pub columnJoin : Format → ℕ → List Float → List Float → ℕ → List Float → List Float → ℕ → List Float

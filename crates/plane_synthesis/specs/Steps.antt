@@ -8,16 +8,15 @@ use lib.ListN.{length, take, drop, length-drop}
 use lib.Seq.{length-take-le, take-length, take-at, drop-at, take-add, take-take, drop-drop}
 use lib.Ieee.{Float, Format}
 use Rattle.numbers.specs.Words.{longest, at, cleared}
-use Rattle.numbers.specs.Write.{length-tab}
 use Rattle.bank.specs.Lengths.{GoodTaps, pairs}
-use Rattle.synthesis.specs.Lines.{synthesised}
+use Rattle.synthesis.specs.Lines.{synthesised, joinOf}
 use Rattle.synthesis.specs.Works.{Joinable}
-use Rattle.synthesis.specs.Runs.{length-synthesised}
+use Rattle.synthesis.specs.Runs.{length-join}
 use Rattle.tables.specs.Tables.{lineOf, stored, crossing, crossed}
 use Rattle.tables.specs.Works.{Crossable}
 use Rattle.tables.specs.Stored.{line-end, length-stored, stored-at, line-stored, line-further, stored-same, length-crossing, crossing-same, crossing-add}
 use Rattle.tables.specs.Crosses.{crossings}
-use Rattle.plane_synthesis.specs.Joins.{joinOf, rowJoin, planeJoined}
+use Rattle.plane_synthesis.specs.Joins.{columnJoin, rowJoin, planeJoined}
 use Rattle.plane_synthesis.specs.Works.{Joins, stepJoin, Columning, Rowing, rowHeld}
 
 -- ---- joins
@@ -30,9 +29,6 @@ side-joins n f t some few even ea ed eo = record {
   both = omega (arith, ea, ed);
   ruled = omega (arith, ea, eo, even, t .even, t .two, some);
 }
-
-pub length-join : (g : Format) (F : ℕ) (low high : List Float) (n : ℕ) (a d : List Float) → length (joinOf g F low high n a d) ≡ n
-length-join g F low high n a d = length-synthesised g F low high a d (cleared n) ∙ length-tab _ n
 
 -- a join of parts, by their lengths
 pub joined-parts : (g : Format) (F : ℕ) (low high : List Float) (n : ℕ) {a a′ d d′ ys : List Float} {o : ℕ} → ys ≡ synthesised g F low high a d (cleared o) → a ≡ a′ → d ≡ d′ → o ≡ n
@@ -54,28 +50,39 @@ row-high m r k x e h =
     ∙ ap (drop m) (sym (take-add m m z))
 
 -- ---- the columns of two bands, and the rows of both, as lines a step apart
-pub columns-join : {w h f lo hi out : ℕ} → Columning w h f lo hi out → Joins f lo hi (pairs h f) h (pairs w f) out
-columns-join {w} {h} {f} a = record {
+pub columns-join : {w h f lo hi out m B : ℕ} → Columning w h f lo hi out → m ≡ pairs w f → B ≡ pairs h f → Joins f lo hi B h m out
+columns-join {w} {h} {f} {m = m} {B} a em eb = record {
   taps = a .even .sides .taps;
   some = a .even .sides .high;
   few = a .even .sides .down;
   even = a .even .high;
-  lows = λ c l. omega (arith, line-end (pairs h f) l, a .lows);
-  highs = λ c l. omega (arith, line-end (pairs h f) l, a .highs);
-  room = a .filled;
+  lows = λ c l. omega (arith, line-end B l, a .lows, long, eb);
+  highs = λ c l. omega (arith, line-end B l, a .highs, long, eb);
+  room = a .filled ∙ ap (λ (k : ℕ). k * h) (sym em);
 }
+  where
+    long : m * B ≡ pairs w f * pairs h f
+    long = cc
 
-pub rows-few : (w h f bands p : ℕ) → Rowing w h f bands p → pairs w f ≤ bands
-rows-few w h f bands p a = omega (arith, line-end (pairs w f + pairs w f) (let z : 0 < h = omega (arith, a .even .sides .high) in z), a .held)
+pub columns-held : (g : Format) (w h f m B : ℕ) (low high x y : List Float) → m ≡ pairs w f → B ≡ pairs h f
+    → stored (stepJoin g f low high B h x y) m ≡ stored (columnJoin g f low high h x y) (pairs w f)
+columns-held g w h f m B low high x y em eb = ap (λ (k : ℕ). stored (stepJoin g f low high k h x y) m) eb ∙ ap (stored (columnJoin g f low high h x y)) em
 
-pub rows-join : {w h f bands hi p : ℕ} → Rowing w h f bands p → hi ≡ bands - pairs w f → Joins f bands hi (pairs w f + pairs w f) w h p
-rows-join {w} {h} {f} a e = record {
+pub rows-few : {w h f bands p m : ℕ} → Rowing w h f bands p → m ≡ pairs w f → m ≤ bands
+rows-few {w} {h} {f} a em = omega (arith, em, line-end (pairs w f + pairs w f) (let z : 0 < h = omega (arith, a .even .sides .high) in z), a .held)
+
+-- their length, by so many pairs
+rows-long : {w h f bands p m : ℕ} → Rowing w h f bands p → m ≡ pairs w f → bands ≡ h * (m + m)
+rows-long {h = h} a em = a .held ∙ ap (λ (k : ℕ). h * (k + k)) (sym em)
+
+pub rows-join : {w h f bands hi p m : ℕ} → Rowing w h f bands p → m ≡ pairs w f → hi ≡ bands - m → Joins f bands hi (m + m) w h p
+rows-join {w} {h} {m = m} a em e = record {
   taps = a .even .sides .taps;
   some = a .even .sides .wide;
   few = a .even .sides .across;
   even = a .even .wide;
-  lows = λ c l. omega (arith, line-end (pairs w f + pairs w f) l, a .held);
-  highs = λ c l. omega (arith, line-end (pairs w f + pairs w f) l, a .held, e);
+  lows = λ c l. omega (arith, line-end (m + m) l, rows-long a em, em);
+  highs = λ c l. omega (arith, line-end (m + m) l, rows-long a em, em, e);
   room = a .filled ∙ mul-comm w h;
 }
 
@@ -86,13 +93,14 @@ row-beside m r x = drop-drop (r * (m + m)) m x ∙ ap (λ (k : ℕ). drop k x) (
 pub rest-all : (m : ℕ) (x : List Float) → take (length x - m) (drop m x) ≡ drop m x
 rest-all m x = ap (λ (k : ℕ). take k (drop m x)) (sym (length-drop m x)) ∙ take-length (drop m x)
 
-pub rows-held : (g : Format) (w h f bands p : ℕ) (low high x y : List Float) → length x ≡ bands → y ≡ drop (pairs w f) x → Rowing w h f bands p
-    → stored (stepJoin g f low high (pairs w f + pairs w f) w x y) h ≡ stored (rowHeld g f low high w (pairs w f) x) h
-rows-held g w h f bands p low high x y e ey a =
-    stored-same (stepJoin g f low high (pairs w f + pairs w f) w x y) (rowHeld g f low high w (pairs w f) x) h
-    (λ r l. let m = pairs w f in
-    joined-parts g f low high w refl (row-low m r m x refl)
-    (ap (λ (z : List Float). take m (drop (r * (m + m)) z)) ey ∙ ap (take m) (row-beside m r x) ∙ row-high m r m x refl (omega (arith, line-end (m + m) l, a .held, e))) refl)
+pub rows-held : (g : Format) (w h f bands p m : ℕ) (low high x y : List Float) → length x ≡ bands → y ≡ drop m x → Rowing w h f bands p → m ≡ pairs w f
+    → stored (stepJoin g f low high (m + m) w x y) h ≡ stored (rowHeld g f low high w (pairs w f) x) h
+rows-held g w h f bands p m low high x y e ey a em =
+    stored-same (stepJoin g f low high (m + m) w x y) (rowHeld g f low high w m x) h
+    (λ r l. let k = pairs w f in
+    joined-parts g f low high w refl (row-low m r k x (sym em))
+    (ap (λ (z : List Float). take k (drop (r * (m + m)) z)) ey ∙ ap (take k) (row-beside m r x) ∙ row-high m r k x (sym em) (omega (arith, line-end (m + m) l, rows-long a em, e))) refl)
+    ∙ ap (λ (k : ℕ). stored (rowHeld g f low high w k x) h) em
 
 -- ---- all of it: two tables of m columns of h stand in s, their crossing behind them in t
 module _ (cl ch : ℕ → List Float) (m h : ℕ) (el : (c : ℕ) → length (cl c) ≡ h) (eh : (c : ℕ) → length (ch c) ≡ h) (s t rest : List Float)

@@ -6,12 +6,12 @@ use Prim.Native.Nat.{ℕ}
 use lib.Dec.{eqb}
 use lib.ListN.{length}
 use lib.Ieee.{Float, binary64}
-use Rattle.numbers.specs.Words.{whenDone}
+use Rattle.numbers.specs.Words.{whenDone, andThen}
 use Rattle.bank.specs.Lengths.{pairs, lineLength}
 use Rattle.planes.specs.declared.Planes.{Planes}
 use Rattle.planes.specs.declared.Planes.the-variants.{Done, OutputSizeIsNotValid}
 use Rattle.planes.specs.Lengths.{bandLength, planeScratch}
-use Rattle.planes.specs.Answers.{numberOf, andThen, heldOf, bandsOf, Scratched}
+use Rattle.planes.specs.Answers.{numberOf, heldOf, bandsOf, Scratched}
 use Rattle.plane_synthesis.specs.Joins.{planeJoined}
 
 -- 4 for a side that synthesis doesn't give: an odd one, which it gives one place more
@@ -23,7 +23,7 @@ sidesOf w h f =
 
 -- 12, 7, 11, 10 for the target, 10 for the scratch, then 2 for each band in turn, 4 for the height, and 4 for the width
 unfoldable pub answerOf : ℕ → ℕ → ℕ → ℕ → ℕ → ℕ → ℕ → ℕ → ℕ → Planes
-answerOf w h f p s ll lh hl hh = andThen (andThen (heldOf w h f p s) (bandsOf (bandLength w h f) ll lh hl hh)) (sidesOf w h f)
+answerOf w h f p s ll lh hl hh = andThen numberOf (andThen numberOf (heldOf w h f p s) (bandsOf (bandLength w h f) ll lh hl hh)) (sidesOf w h f)
 
 -- by the first f of either tap list: of a bank its arrays and count
 pub record Synthesised (low high : List Float) (f : ℕ) (ll lh hl hh : List Float) (w h : ℕ) (plane scratch : List Float) (r : Planes) (plane′ scratch′ : List Float) : Type 0 where

@@ -14,18 +14,20 @@ use lib.Ieee.{Float, Format}
 use Rattle.numbers.specs.Tests.{passed}
 use Rattle.numbers.specs.Places.{drop-further}
 use Rattle.bank.specs.Lengths.{pairs, lineLength, GoodTaps}
+use Rattle.synthesis.specs.Lines.{joinOf}
+use Rattle.synthesis.specs.Runs.{length-join}
 use Rattle.planes.specs.declared.Planes.the-variants.{Done}
 use Rattle.planes.specs.Lengths.{bandLength, planeScratch}
-use Rattle.planes.specs.Answers.{numberOf, andThen, heldOf, bandsOf}
+use Rattle.planes.specs.Answers.{numberOf, heldOf, bandsOf}
 use Rattle.planes.specs.Tested.{both-done, held-done, bands-done}
-use Rattle.tables.specs.Tables.{stored, crossed}
+use Rattle.tables.specs.Tables.{stored, crossing, crossed}
 use Rattle.tables.specs.Works.{Crossable}
 use Rattle.tables.specs.Stored.{length-stored}
 use Rattle.tables.specs.Crosses.{crossed-behind}
 use Rattle.plane_synthesis.specs.Joins.{columnJoin, planeJoined}
 use Rattle.plane_synthesis.specs.Syntheses.{sidesOf, answerOf}
 use Rattle.plane_synthesis.specs.Works.{Columning, Rowing, rowHeld, Synthesising, Joined}
-use Rattle.plane_synthesis.specs.Steps.{length-join, rows-joined}
+use Rattle.plane_synthesis.specs.Steps.{rows-joined}
 
 -- a side that synthesis gives is even
 even-side : (n f : ℕ) → GoodTaps f → n ≡ lineLength (pairs n f) f → n % 2 ≡ 0
@@ -34,7 +36,7 @@ even-side n f t e = omega (arith, e, t .even, t .two)
 pub synthesising : (w h f p s ll lh hl hh : ℕ) → answerOf w h f p s ll lh hl hh ≡ Done → Synthesising w h f p s ll lh hl hh
 unfolding answerOf
 synthesising w h f p s ll lh hl hh e =
-    let q = both-done (andThen (heldOf w h f p s) (bandsOf (bandLength w h f) ll lh hl hh)) (sidesOf w h f) e in
+    let q = both-done _ (sidesOf w h f) e in
     let k = both-done (heldOf w h f p s) (bandsOf (bandLength w h f) ll lh hl hh) (q .0) in
     let t = passed numberOf (not (eqb h (lineLength (pairs h f) f))) (q .1) (lit< tt) refl in
     let u = passed numberOf (not (eqb w (lineLength (pairs w f) f))) (t .1) (lit< tt) refl in
@@ -50,25 +52,25 @@ synthesising w h f p s ll lh hl hh e =
     }
 
 -- ---- the parts of the work, in a scratch of s: the columns of either half from its front, and their crossing
-module _ {w h f p s ll lh hl hh : ℕ} (a : Synthesising w h f p s ll lh hl hh) where
-  abbrev m : ℕ
-  m = pairs w f
+module _ {w h f p s ll lh hl hh : ℕ} (a : Synthesising w h f p s ll lh hl hh) (m : ℕ) (em : m ≡ pairs w f) where
+  half : m * h ≡ pairs w f * h
+  half = ap (λ (k : ℕ). k * h) em
 
   pub room : m * h + m * h + (m * h + m * h) ≤ s
-  room = omega (arith, a .held .room)
+  room = omega (arith, half, a .held .room)
 
   pub columning : {lo hi out : ℕ} → lo ≡ bandLength w h f → hi ≡ bandLength w h f → out ≡ m * h → Columning w h f lo hi out
-  columning lows highs outs = record { even = a .even; lows = lows; highs = highs; filled = outs }
+  columning lows highs outs = record { even = a .even; lows = lows; highs = highs; filled = outs ∙ half }
 
   pub crossable : {s′ : ℕ} → s′ ≡ s → Crossable s′ (m + m) h
-  crossable e = record { tall = omega (arith, a .held .sides .taps .two, a .held .sides .wide); wide = a .held .sides .high; room = omega (arith, e, room, add-mul m m h) }
+  crossable e = record { tall = omega (arith, em, a .held .sides .taps .two, a .held .sides .wide); wide = a .held .sides .high; room = omega (arith, e, room, add-mul m m h) }
 
   pub rowing : {bands out : ℕ} → bands ≡ m * h + m * h → out ≡ p → Rowing w h f bands out
-  rowing held out = record { even = a .even; held = held ∙ omega (arith, add-mul m m h, mul-comm (m + m) h); filled = out ∙ a .held .filled }
+  rowing held out = record { even = a .even; held = held ∙ omega (arith, add-mul m m h, mul-comm (m + m) h) ∙ ap (λ (k : ℕ). h * (k + k)) em; filled = out ∙ a .held .filled }
 
   -- all of it: s₂ has the columns of either half, t their crossing as well, and the rows are read there
   module _ (g : Format) (low high bll blh bhl bhh x s₁ s₂ y t : List Float) (ex : length x ≡ s)
-      (e₁ : s₁ ≡ stored (columnJoin g f low high h bll blh) m ++ drop (m * h) x) (ey : y ≡ stored (columnJoin g f low high h bhl bhh) m)
+      (e₁ : s₁ ≡ stored (columnJoin g f low high h bll blh) (pairs w f) ++ drop (m * h) x) (ey : y ≡ stored (columnJoin g f low high h bhl bhh) (pairs w f))
       (e₂ : s₂ ≡ putMid (m * h) (m * h + m * h - m * h) s₁ y) (long : length s₂ ≡ length x) (et : t ≡ crossed (m + m) h s₂) (lt : length t ≡ length s₂) where
     abbrev cl : ℕ → List Float
     cl = columnJoin g f low high h bll blh
@@ -83,11 +85,11 @@ module _ {w h f p s ll lh hl hh : ℕ} (a : Synthesising w h f p s ll lh hl hh) 
     halves =
         e₂
         ∙ ap (λ (n : ℕ). putMid (m * h) n s₁ y) (let z : m * h + m * h - m * h ≡ m * h = omega arith in z)
-        ∙ ap (λ (l : List Float). take (m * h) l ++ (y ++ drop (m * h) (drop (m * h) l))) e₁
+        ∙ ap (λ (l : List Float). take (m * h) l ++ (y ++ drop (m * h) (drop (m * h) l))) (e₁ ∙ ap (λ (k : ℕ). stored cl k ++ drop (m * h) x) (sym em))
         ∙ ap (λ (l : List Float). l ++ (y ++ drop (m * h) (drop (m * h) (stored cl m ++ drop (m * h) x)))) (take-at (stored cl m) (drop (m * h) x) (m * h) (length-half bll blh))
         ∙ ap (λ (l : List Float). stored cl m ++ (y ++ drop (m * h) l)) (drop-at (stored cl m) (drop (m * h) x) (m * h) (length-half bll blh))
         ∙ ap (λ (l : List Float). stored cl m ++ (y ++ l)) (drop-drop (m * h) (m * h) x)
-        ∙ ap (λ (l : List Float). stored cl m ++ (l ++ drop (m * h + m * h) x)) ey
+        ∙ ap (λ (l : List Float). stored cl m ++ (l ++ drop (m * h + m * h) x)) (ey ∙ ap (stored ch) (sym em))
 
     w₂ : Crossable (length s₂) (m + m) h
     w₂ = crossable (long ∙ ex)
@@ -99,16 +101,18 @@ module _ {w h f p s ll lh hl hh : ℕ} (a : Synthesising w h f p s ll lh hl hh) 
 
     far : drop (planeScratch w h f) t ≡ drop (planeScratch w h f) x
     far =
-        drop-further ((m + m) * h + (m + m) * h) (planeScratch w h f) t s₂ (omega (arith, add-mul m m h)) (ap (drop ((m + m) * h + (m + m) * h)) et ∙ crossed-behind (m + m) h s₂ w₂)
-        ∙ drop-further (m * h + m * h) (planeScratch w h f) s₂ x (omega arith) rest
+        drop-further ((m + m) * h + (m + m) * h) (planeScratch w h f) t s₂ (omega (arith, half, add-mul m m h)) (ap (drop ((m + m) * h + (m + m) * h)) et ∙ crossed-behind (m + m) h s₂ w₂)
+        ∙ drop-further (m * h + m * h) (planeScratch w h f) s₂ x (omega (arith, half)) rest
 
-    pub joined : {plane : List Float} (n : ℕ) → n ≡ m * h + m * h → plane ≡ stored (rowHeld g f low high w m (take n (drop (m * h + m * h) t))) h
+    pub joined : {plane : List Float} (n : ℕ) → n ≡ m * h + m * h → plane ≡ stored (rowHeld g f low high w (pairs w f) (take n (drop (m * h + m * h) t))) h
         → Joined g f low high w h bll blh bhl bhh x plane t
     unfolding planeJoined
     joined n en e = record {
       joined = e
+          ∙ ap (λ (k : ℕ). stored (rowHeld g f low high w k (take n (drop (m * h + m * h) t))) h) (sym em)
           ∙ ap (λ (k : ℕ). stored (rowHeld g f low high w m (take n (drop k t))) h) (sym (add-mul m m h))
-          ∙ rows-joined cl ch m h (λ c. length-join g f low high h _ _) (λ c. length-join g f low high h _ _) s₂ t (drop (m * h + m * h) x) halves w₂ et g f low high w n (omega (arith, en, add-mul m m h));
+          ∙ rows-joined cl ch m h (λ c. length-join g f low high h _ _) (λ c. length-join g f low high h _ _) s₂ t (drop (m * h + m * h) x) halves w₂ et g f low high w n (omega (arith, en, add-mul m m h))
+          ∙ ap (λ (k : ℕ). stored (λ r. joinOf g f low high w (crossing cl k r) (crossing ch k r)) h) em;
       long = lt ∙ long;
       beyond = far;
     }

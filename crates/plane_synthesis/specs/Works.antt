@@ -6,10 +6,11 @@ use lib.ListN.{length, take, drop}
 use lib.Ieee.{Float, Format}
 use Rattle.numbers.specs.Words.{longest}
 use Rattle.bank.specs.Lengths.{GoodTaps, pairs}
+use Rattle.synthesis.specs.Lines.{joinOf}
 use Rattle.planes.specs.Lengths.{bandLength, planeScratch}
 use Rattle.planes.specs.Works.{Sided, Held, Banded}
 use Rattle.tables.specs.Tables.{lineOf}
-use Rattle.plane_synthesis.specs.Joins.{joinOf, planeJoined}
+use Rattle.plane_synthesis.specs.Joins.{planeJoined}
 
 -- a plane of w by h whose sides synthesis gives
 pub record Even (w h f : ℕ) : Type 0 where

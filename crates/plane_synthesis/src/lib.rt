@@ -6,24 +6,26 @@ ghost use mathlib.Core.Path.{_≡_};
 ghost use Rattle.plane_synthesis.specs.Syntheses.{sidesOf, answerOf, Synthesised};
 ghost use Rattle.planes.specs.Works.{Sided};
 use bank::Bank;
+use bank::lengths::dwt_length;
+use bank::lengths::idwt_length;
 use planes::Planes;
 use planes::bands_answer;
 use planes::held_answer;
-use planes::sizes::band_need;
+use planes::needs::band_need;
 
 // Whether synthesis gives these sides; they have been tested for size.
 fn sides_answer(width: usize, height: usize, f: usize) -> Planes
     requires { ⌜ Sided width height f ⌝ }
     ensures { λ r. ⌜ r ≡ sidesOf width height f ⌝ }
 {
-    let tall = 2 * ((height + f - 1) / 2) + 2 - f;
+    let tall = idwt_length(dwt_length(height, f), f);
     if height != tall {
         return Planes::OutputSizeIsNotValid {
             have: height,
             need: tall,
         };
     }
-    let wide = 2 * ((width + f - 1) / 2) + 2 - f;
+    let wide = idwt_length(dwt_length(width, f), f);
     if width != wide {
         return Planes::OutputSizeIsNotValid {
             have: width,

@@ -7,8 +7,9 @@ ghost use Rattle.bank.specs.Lengths.{pairs, Lent};
 ghost use Rattle.tables.specs.Tables.{stored};
 ghost use Rattle.plane_synthesis.specs.Joins.{columnJoin};
 ghost use Rattle.plane_synthesis.specs.Works.{Joins, stepJoin, Columning, Rowing, rowHeld, Synthesising, Joined};
+use bank::lengths::dwt_length;
 use synthesis::work::join_cleared;
-use tables::cross;
+use tables::work::cross;
 
 // So many lines of n places, one after another: line c joined from m numbers of either list, `step` numbers further for each line.
 fn joins<'a>(
@@ -25,7 +26,7 @@ fn joins<'a>(
     requires { ⌜ Lent f (length (now low)) (length (now high)) × Joins f (length (now lo)) (length (now hi)) step n count (length (now out)) ⌝ }
     ensures { λ _. ⌜ now (out .exit) ≡ stored (stepJoin binary64 f (now (low .entry)) (now (high .entry)) step n (now (lo .entry)) (now (hi .entry))) count ⌝ }
 {
-    let m = (n + f - 1) / 2;
+    let m = dwt_length(n, f);
     let mut c = 0usize;
     while c < count {
         let from = c * step;
@@ -58,8 +59,8 @@ fn columns<'a>(
     requires { ⌜ Lent f (length (now low)) (length (now high)) × Columning width height f (length (now lo)) (length (now hi)) (length (now out)) ⌝ }
     ensures { λ _. ⌜ now (out .exit) ≡ stored (columnJoin binary64 f (now (low .entry)) (now (high .entry)) height (now (lo .entry)) (now (hi .entry))) (pairs width f) ⌝ }
 {
-    let m = (width + f - 1) / 2;
-    let b = (height + f - 1) / 2;
+    let m = dwt_length(width, f);
+    let b = dwt_length(height, f);
     joins(low, high, f, lo, hi, b, height, m, out);
 }
 
@@ -76,7 +77,7 @@ fn rows<'a>(
     requires { ⌜ Lent f (length (now low)) (length (now high)) × Rowing width height f (length (now bands)) (length (now plane)) ⌝ }
     ensures { λ _. ⌜ now (plane .exit) ≡ stored (rowHeld binary64 f (now (low .entry)) (now (high .entry)) width (pairs width f) (now (bands .entry))) height ⌝ }
 {
-    let m = (width + f - 1) / 2;
+    let m = dwt_length(width, f);
     joins(
         low,
         high,
@@ -108,7 +109,7 @@ pub fn join_plane<'a>(
     ensures { λ _. ⌜ Joined binary64 f (now (low .entry)) (now (high .entry)) width height (now (ll .entry)) (now (lh .entry)) (now (hl .entry)) (now (hh .entry)) (now (scratch .entry))
         (now (plane .exit)) (now (scratch .exit)) ⌝ }
 {
-    let m = (width + f - 1) / 2;
+    let m = dwt_length(width, f);
     let half = m * height;
     let area = half + half;
     let end = area + area;

@@ -4,7 +4,7 @@ use Rattle.comparing.specs.declared.Compared.{Compared}
 use Rattle.comparing.specs.declared.Compared.the-variants.{Equal, Differs, ZeroedBaseSize, InputSize, Limit}
 use Rattle.comparing.specs.Comparings.{numberOf}
 
--- 27 where the bands differ, since C sees no case beside the number; else document 01's
+-- 27 where the bands differ, since C sees no case beside the number; else the answer's own (RULES, Numbers)
 abbrev pub numberTold : Compared → ℕ
 numberTold Equal = numberOf Equal
 numberTold (Differs column row) = 27

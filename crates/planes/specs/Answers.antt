@@ -6,7 +6,7 @@ use Prim.Native.Nat.{ℕ, _*_, _<_}
 use lib.Dec.{ltb, eqb}
 use lib.ListN.{length, drop}
 use lib.Ieee.{Float}
-use Rattle.numbers.specs.Words.{whenDone}
+use Rattle.numbers.specs.Words.{whenDone, andThen}
 use Rattle.tables.specs.Tables.{tooLarge}
 use Rattle.bank.specs.Lengths.{badTaps, pairs}
 use Rattle.planes.specs.declared.Planes.{Planes}
@@ -15,7 +15,7 @@ use Rattle.planes.specs.declared.sizes.PlaneSize.{PlaneSize}
 use Rattle.planes.specs.declared.sizes.PlaneSize.the-variants as size
 use Rattle.planes.specs.Lengths.{bandLength, planeScratch}
 
--- document 01's number of an answer, and the values that it carries
+-- the number of an answer, and the values that it carries (RULES, Numbers)
 abbrev pub numberOf : Planes → ℕ
 numberOf Done = 0
 numberOf (MinFilterSize n f) = 1
@@ -44,10 +44,6 @@ abbrev pub sizeValues : PlaneSize → List ℕ
 sizeValues (size.Length l) = l ∷ []
 sizeValues (size.Refused a) = valuesOf a
 
--- tests that come after others: where those are done, what these say
-abbrev pub andThen : Planes → Planes → Planes
-andThen before after = whenDone (numberOf before) after before
-
 -- 12, 7, 11
 unfoldable pub askedOf : ℕ → ℕ → ℕ → Planes
 askedOf w h f =
@@ -59,7 +55,7 @@ askedOf w h f =
 -- and 10 for a plane of p numbers, 10 for a scratch of s
 unfoldable pub heldOf : ℕ → ℕ → ℕ → ℕ → ℕ → Planes
 heldOf w h f p s =
-    andThen (askedOf w h f)
+    andThen numberOf (askedOf w h f)
     (cond (not (eqb p (w * h))) (InputSize (w * h) p)
     (cond (ltb s (planeScratch w h f)) (InputSize (planeScratch w h f) s)
     Done))

@@ -8,7 +8,7 @@ use lib.Dec.{eqb, ltb, lit<}
 use lib.ListN.{length, drop}
 use lib.Ieee.{Float}
 use mathlib.Core.List.{List}
-use Rattle.numbers.specs.Words.{whenDone}
+use Rattle.numbers.specs.Words.{whenDone, andThen}
 use Rattle.numbers.specs.Tests.{passed, neither, stopped-by, went-on-by, both-done-by}
 use Rattle.tables.specs.Tables.{tooLarge}
 use Rattle.tables.specs.Sides.{within-limits}
@@ -17,7 +17,7 @@ use Rattle.bank.specs.Tested.{good-taps}
 use Rattle.planes.specs.declared.Planes.{Planes}
 use Rattle.planes.specs.declared.Planes.the-variants.{Done, MinFilterSize, ApproxDetailsSize, OutputSizeIsNotValid, ZeroedBaseSize, InputSize, Limit, Taps}
 use Rattle.planes.specs.Lengths.{planeScratch}
-use Rattle.planes.specs.Answers.{numberOf, andThen, askedOf, heldOf, bandsOf, Scratched}
+use Rattle.planes.specs.Answers.{numberOf, askedOf, heldOf, bandsOf, Scratched}
 use Rattle.planes.specs.Works.{Sided, Held, Banded}
 
 -- 0 is the number of done alone
@@ -38,7 +38,7 @@ stopped = stopped-by numberOf done-alone
 pub went-on : {A : Type 0} {x : Planes} {y : A} (new old : A) → x ≡ Done → y ≡ new → y ≡ whenDone (numberOf x) new old
 went-on = went-on-by numberOf refl
 
-pub both-done : (a b : Planes) → andThen a b ≡ Done → (a ≡ Done) × (b ≡ Done)
+pub both-done : (a b : Planes) → andThen numberOf a b ≡ Done → (a ≡ Done) × (b ≡ Done)
 both-done = both-done-by numberOf done-alone refl
 
 -- ---- tests that passed

@@ -1,9 +1,10 @@
 // A plane and its four bands: here are their lengths and the tests that analysis and synthesis share, and no sums.
+pub mod needs;
 pub mod sizes;
 
 ghost use mathlib.Core.Path.{_≡_};
 ghost use Rattle.planes.specs.Answers.{askedOf, heldOf, bandsOf};
-use crate::sizes::scratch_need;
+use crate::needs::scratch_need;
 use bank::sizes::bad_taps;
 use tables::sides::too_large;
 

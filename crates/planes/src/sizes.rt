@@ -1,33 +1,14 @@
 // The lengths that a user of planes has to know to lend buffers.
-ghost use mathlib.Core.Path.{_≡_};
 ghost use Rattle.planes.specs.Answers.{WidthSized, HeightSized, BandSized, ScratchSized};
-ghost use Rattle.planes.specs.Lengths.{bandLength, planeScratch};
-ghost use Rattle.planes.specs.Works.{Sided};
 use crate::Planes;
 use crate::asked_answer;
-use numbers::most;
+use crate::needs::band_need;
+use crate::needs::scratch_need;
+use bank::lengths::dwt_length;
 
 pub enum PlaneSize {
     Length(usize),
     Refused(Planes),
-}
-
-// How long a band is; the sides have been tested.
-pub fn band_need(width: usize, height: usize, f: usize) -> usize
-    requires { ⌜ Sided width height f ⌝ }
-    ensures { λ r. ⌜ r ≡ bandLength width height f ⌝ }
-{
-    (width + f - 1) / 2 * ((height + f - 1) / 2)
-}
-
-// How much scratch a plane needs; the sides have been tested.
-pub fn scratch_need(width: usize, height: usize, f: usize) -> usize
-    requires { ⌜ Sided width height f ⌝ }
-    ensures { λ r. ⌜ r ≡ planeScratch width height f ⌝ }
-{
-    let m = (width + f - 1) / 2;
-    let b = (height + f - 1) / 2;
-    4 * (m * height) + most(2 * m + f - 2, 2 * b + f - 2)
 }
 
 // How many columns a band has.
@@ -38,7 +19,7 @@ pub fn plane_band_width(width: usize, height: usize, f: usize) -> PlaneSize
     let Planes::Done = answer else {
         return PlaneSize::Refused(answer);
     };
-    PlaneSize::Length((width + f - 1) / 2)
+    PlaneSize::Length(dwt_length(width, f))
 }
 
 // How many places each column of a band has.
@@ -49,7 +30,7 @@ pub fn plane_band_height(width: usize, height: usize, f: usize) -> PlaneSize
     let Planes::Done = answer else {
         return PlaneSize::Refused(answer);
     };
-    PlaneSize::Length((height + f - 1) / 2)
+    PlaneSize::Length(dwt_length(height, f))
 }
 
 // How long a band is.

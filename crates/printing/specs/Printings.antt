@@ -6,13 +6,12 @@ use Prim.Native.Nat.{ℕ}
 use lib.Dec.{ltb}
 use lib.ListN.{length}
 use lib.Ieee.{Float}
-use Rattle.numbers.specs.Words.{longest, whenDone}
+use Rattle.numbers.specs.Words.{longest, whenDone, headed}
 use Rattle.texts.specs.Texts.{newline, decimal}
-use Rattle.texts.specs.Laying.{headed}
 use Rattle.printing.specs.declared.Printing.{Printing}
 use Rattle.printing.specs.declared.Printing.the-variants.{Done, InputSize, Limit}
 
--- document 01's number of an answer, and the values that it carries
+-- the number of an answer, and the values that it carries (RULES, Numbers)
 abbrev pub numberOf : Printing → ℕ
 numberOf (Done size) = 0
 numberOf (InputSize need have) = 10

@@ -41,6 +41,16 @@ fn group(op: usize) -> u8 {
     }
 }
 
+// As much of an array as the k-th part has words.
+fn front<'a>(words: &[u64], k: usize, list: &'a mut [f64]) -> &'a mut [f64] {
+    let n = count(words, part(words, k));
+    if list.len() < n {
+        return &mut list[..0];
+    }
+    &mut list[..n]
+}
+
+// Each list as long as the line has it.
 fn ask(
     words: &[u64],
     a: &mut [f64],
@@ -53,6 +63,14 @@ fn ask(
     h: &mut [f64],
     carried: &mut [usize; 2],
 ) -> u64 {
+    let a = front(words, 2, a);
+    let b = front(words, 4, b);
+    let c = front(words, 6, c);
+    let d = front(words, 8, d);
+    let e = front(words, 10, e);
+    let f = front(words, 12, f);
+    let g = front(words, 14, g);
+    let h = front(words, 16, h);
     match group(scalar(words, 0)) {
         1 => on_lines::ask(words, a, b, c, d, e, f, carried),
         2 => on_levels::ask(words, a, b, c, d, e, carried),
@@ -60,41 +78,6 @@ fn ask(
         4 => on_banks::ask(words, a, b, c, d, e, f, g, carried),
         _ => on_sizes::ask(words, carried),
     }
-}
-
-// As much of an array as the k-th part has words.
-fn front<'a>(words: &[u64], k: usize, list: &'a mut [f64]) -> &'a mut [f64] {
-    let n = count(words, part(words, k));
-    if list.len() < n {
-        return &mut list[..0];
-    }
-    &mut list[..n]
-}
-
-fn ask_lists(
-    words: &[u64],
-    a: &mut [f64],
-    b: &mut [f64],
-    c: &mut [f64],
-    d: &mut [f64],
-    e: &mut [f64],
-    f: &mut [f64],
-    g: &mut [f64],
-    h: &mut [f64],
-    carried: &mut [usize; 2],
-) -> u64 {
-    ask(
-        words,
-        front(words, 2, a),
-        front(words, 4, b),
-        front(words, 6, c),
-        front(words, 8, d),
-        front(words, 10, e),
-        front(words, 12, f),
-        front(words, 14, g),
-        front(words, 16, h),
-        carried,
-    )
 }
 
 // The call of a line with up to eight lists, and whether it answers and leaves what the line says.
@@ -108,7 +91,7 @@ pub fn agrees(words: &[u64]) -> bool {
     let mut g = list(words, 14);
     let mut h = list(words, 16);
     let mut carried = [BLANK; 2];
-    let number = ask_lists(
+    let number = ask(
         words,
         &mut a,
         &mut b,

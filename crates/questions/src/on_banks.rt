@@ -4,9 +4,9 @@ use crate::on_lengths::handing_told;
 use crate::parts::scalar;
 use bank::Bank;
 use bank::making::bank;
-use border::pad::copy_to;
 use exact::there_and_back;
 use level_telling::told;
+use numbers::copying::copy_to;
 use restoring::restoring_answer;
 use telling::borders::border_of;
 
@@ -16,7 +16,7 @@ fn made(low: &[f64], high: &[f64], border: usize) -> Bank {
 }
 
 // Whether a part went to a list of its own length.
-fn laid(part: &[f64], list: &mut [f64]) -> bool {
+fn handed(part: &[f64], list: &mut [f64]) -> bool {
     if part.len() != list.len() {
         return false;
     }
@@ -30,7 +30,7 @@ fn level_details(words: &[u64], packed: &[f64], part: &mut [f64], carried: &mut 
     let f = scalar(words, 2);
     let levels = scalar(words, 3);
     let level = scalar(words, 4);
-    if !laid(
+    if !handed(
         level_parts::level_details(packed, n, f, levels, level),
         part,
     ) {
@@ -63,7 +63,7 @@ fn restored_line(
         second.len(),
     );
     let restored = restoring::restored_line(bank, packed, n, levels, first, second);
-    if !laid(restored, line) {
+    if !handed(restored, line) {
         return crate::NO_CALL;
     }
     told::levels(answer, carried)

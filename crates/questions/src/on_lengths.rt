@@ -1,4 +1,7 @@
 // The entries' tests on lengths alone: they take lengths that no program here could lend.
+ghost use Rattle.exact.specs.Backs as Backs;
+ghost use Rattle.level_parts.specs.Parts as Parts;
+ghost use Rattle.telling.specs.Told.{Told};
 use crate::parts::scalar;
 use crate::parts::signed;
 use analysis::analysis_answer;
@@ -18,7 +21,9 @@ use restoring::restoring_answer;
 use synthesis::synthesis_answer;
 use telling::borders::border_of;
 
-pub fn back_told(answer: Back, carried: &mut [usize; 2]) -> u64 {
+pub fn back_told(answer: Back, carried: &mut [usize; 2]) -> u64
+    ensures { λ r. ⌜ Told (Backs.numberOf answer) (Backs.valuesOf answer) (now (carried .entry)) r (now (carried .exit)) ⌝ }
+{
     match answer {
         Back::Done => 0,
         Back::Analysis(refusal) => line_telling::told::analysis(refusal, carried),
@@ -26,7 +31,9 @@ pub fn back_told(answer: Back, carried: &mut [usize; 2]) -> u64 {
     }
 }
 
-pub fn handing_told(answer: Handing, carried: &mut [usize; 2]) -> u64 {
+pub fn handing_told(answer: Handing, carried: &mut [usize; 2]) -> u64
+    ensures { λ r. ⌜ Told (Parts.handingNumber answer) (Parts.handingValues answer) (now (carried .entry)) r (now (carried .exit)) ⌝ }
+{
     match answer {
         Handing::Done => 0,
         Handing::NoSuchLevel(level) => telling::told::one(22, level, carried),

@@ -1,8 +1,7 @@
--- Restoring several levels. Definitions: Lines, Restorings, Works. Laws: Steps, Tested, Taps, Unique.
+-- Restoring several levels. Definitions: Lines, Restorings, Works. Laws: Steps, Tested, Unique.
 pub mod Lines
 pub mod Restorings
 pub mod Works
 pub mod Steps
 pub mod Tested
-pub mod Taps
 pub mod Unique

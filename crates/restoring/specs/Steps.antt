@@ -11,37 +11,32 @@ use lib.Dec.{eqb}
 use lib.ListN.{length, take, drop}
 use lib.Seq.{length-take-le, take-append-le, take-length}
 use lib.Ieee.{Float, Format}
-use Rattle.numbers.specs.Words.{cleared}
-use Rattle.numbers.specs.Write.{length-tab}
+use Rattle.numbers.specs.Words.{headed, cleared}
 use Rattle.numbers.specs.Tests.{cond-true, cond-false}
 use Rattle.bank.specs.Lengths.{pairs, lineLength}
 use Rattle.synthesis.specs.Lines.{synthesised}
-use Rattle.synthesis.specs.Runs.{length-synthesised}
+use Rattle.synthesis.specs.Runs.{length-join}
 use Rattle.packed.specs.Lengths.{lineAfter}
 use Rattle.packed.specs.Answers.{partAt}
 use Rattle.packed.specs.Falls.{all-before, fallen, first-longest}
 use Rattle.packed.specs.Follow.{length-part, as-many, whole-length}
-use Rattle.restoring.specs.Lines.{joinOf, restoredAfter, restored, laid, firstAfter, secondAfter}
+use Rattle.restoring.specs.Lines.{levelJoin, restoredAfter, restored, firstAfter, secondAfter}
 use Rattle.restoring.specs.Works.{lineHeld, turnFirst, turnSecond, Turning, Restoring}
 
--- ---- lengths
-pub length-join : (g : Format) (F : ℕ) (low high line detail : List Float) → length (joinOf g F low high line detail) ≡ lineLength (length detail) F
-length-join g F low high line detail = length-synthesised g F low high (take (length detail) line) detail (cleared (lineLength (length detail) F)) ∙ length-tab _ (lineLength (length detail) F)
-
 -- ---- one join at a buffer's front
-pub laid-front : (g : Format) (F : ℕ) (low high line detail out : List Float) (m n : ℕ) {ys : List Float} → m ≡ length detail → n ≡ lineLength m F → n ≤ length out
-    → ys ≡ synthesised g F low high (take m line) detail (cleared (length (take n out))) → ys ++ drop n out ≡ laid (joinOf g F low high line detail) out
-laid-front g F low high line detail out m n em en h e =
+pub headed-front : (g : Format) (F : ℕ) (low high line detail out : List Float) (m n : ℕ) {ys : List Float} → m ≡ length detail → n ≡ lineLength m F → n ≤ length out
+    → ys ≡ synthesised g F low high (take m line) detail (cleared (length (take n out))) → ys ++ drop n out ≡ headed (levelJoin g F low high line detail) out
+headed-front g F low high line detail out m n em en h e =
     let c : length (take n out) ≡ lineLength (length detail) F = length-take-le n out h ∙ en ∙ ap (λ (k : ℕ). lineLength k F) em in
-    let j = joinOf g F low high line detail in
+    let j = levelJoin g F low high line detail in
     ap (λ (l : List Float). l ++ drop n out)
     (e ∙ ap (λ (k : ℕ). synthesised g F low high (take k line) detail (cleared (length (take n out)))) em
     ∙ ap (λ (k : ℕ). synthesised g F low high (take (length detail) line) detail (cleared k)) c)
-    ∙ ap (λ (k : ℕ). j ++ drop k out) (en ∙ ap (λ (k : ℕ). lineLength k F) em ∙ sym (length-join g F low high line detail))
+    ∙ ap (λ (k : ℕ). j ++ drop k out) (en ∙ ap (λ (k : ℕ). lineLength k F) em ∙ sym (length-join g F low high _ (take (length detail) line) detail))
 
 -- a join reads no more of its line than the details are
 pub join-front : (g : Format) (F : ℕ) (low high line line′ detail : List Float) → take (length detail) line ≡ take (length detail) line′
-    → joinOf g F low high line detail ≡ joinOf g F low high line′ detail
+    → levelJoin g F low high line detail ≡ levelJoin g F low high line′ detail
 join-front g F low high line line′ detail e = ap (λ (l : List Float). synthesised g F low high l detail (cleared (lineLength (length detail) F))) e
 
 -- ---- which buffer holds the line
@@ -76,39 +71,39 @@ module _ (g : Format) (F : ℕ) (low high packed : List Float) (n levels : ℕ) 
           let e : i % 2 ≡ 0 = omega (arith, l) in
           ap (take m)
           (cond-false (eqb (suc i % 2) 0) (B (suc i)) (A (suc i)) (ne-eqb (suc i % 2) 0 (λ z. absurd (omega (arith, z, e))))
-          ∙ cond-true (eqb (i % 2) 0) (laid (R (suc i)) (A i)) (A i) (eq-eqb (i % 2) 0 e))
+          ∙ cond-true (eqb (i % 2) 0) (headed (R (suc i)) (A i)) (A i) (eq-eqb (i % 2) 0 e))
           ∙ take-append-le m (R (suc i)) (drop (length (R (suc i))) (A i)) h
       go (no l) =
           let z : suc i % 2 ≡ 0 = omega (arith, l) in
           ap (take m)
           (cond-true (eqb (suc i % 2) 0) (B (suc i)) (A (suc i)) (eq-eqb (suc i % 2) 0 z)
-          ∙ cond-false (eqb (i % 2) 0) (B i) (laid (R (suc i)) (B i)) (ne-eqb (i % 2) 0 (λ e. absurd (omega (arith, e, l)))))
+          ∙ cond-false (eqb (i % 2) 0) (B i) (headed (R (suc i)) (B i)) (ne-eqb (i % 2) 0 (λ e. absurd (omega (arith, e, l)))))
           ∙ take-append-le m (R (suc i)) (drop (length (R (suc i))) (B i)) h
 
   -- a turn
   module _ (j : ℕ) {x y deepest detail : List Float} (ex : x ≡ A j) (ey : y ≡ B j) (ed : deepest ≡ partAt n F levels packed 0)
       (et : detail ≡ partAt n F levels packed (levels - j)) (h : length detail ≤ length (R j)) where
-    same-join : joinOf g F low high (lineHeld deepest x y j) detail ≡ joinOf g F low high (R j) (partAt n F levels packed (levels - j))
+    same-join : levelJoin g F low high (lineHeld deepest x y j) detail ≡ levelJoin g F low high (R j) (partAt n F levels packed (levels - j))
     same-join =
         join-front g F low high (lineHeld deepest x y j) (R j) detail
         (ap (λ (l : List Float). take (length detail) (lineHeld l x y j)) ed
         ∙ ap (λ (l : List Float). take (length detail) (lineHeld (partAt n F levels packed 0) l y j)) ex
         ∙ ap (λ (l : List Float). take (length detail) (lineHeld (partAt n F levels packed 0) (A j) l j)) ey
         ∙ held-front j (length detail) h)
-        ∙ ap (joinOf g F low high (R j)) et
+        ∙ ap (levelJoin g F low high (R j)) et
 
     pub first-more : turnFirst g F low high (lineHeld deepest x y j) detail j x ≡ A (j + 1)
     unfolding restoredAfter firstAfter
     first-more =
-        ap (λ (l : List Float). cond (eqb (j % 2) 0) (laid l x) x) same-join
-        ∙ ap (λ (z : List Float). cond (eqb (j % 2) 0) (laid (R (suc j)) z) z) ex
+        ap (λ (l : List Float). cond (eqb (j % 2) 0) (headed l x) x) same-join
+        ∙ ap (λ (z : List Float). cond (eqb (j % 2) 0) (headed (R (suc j)) z) z) ex
         ∙ sym (ap A (add-one j))
 
     pub second-more : turnSecond g F low high (lineHeld deepest x y j) detail j y ≡ B (j + 1)
     unfolding restoredAfter secondAfter
     second-more =
-        ap (λ (l : List Float). cond (eqb (j % 2) 0) y (laid l y)) same-join
-        ∙ ap (λ (z : List Float). cond (eqb (j % 2) 0) z (laid (R (suc j)) z)) ey
+        ap (λ (l : List Float). cond (eqb (j % 2) 0) y (headed l y)) same-join
+        ∙ ap (λ (z : List Float). cond (eqb (j % 2) 0) z (headed (R (suc j)) z)) ey
         ∙ sym (ap B (add-one j))
 
 -- ---- the lengths of a turn
@@ -123,13 +118,14 @@ long-enough g low high packed n F levels p a b zero w e h =
     omega (arith, r, ap (lineAfter n F) z)
 long-enough g low high packed n F levels p a b (suc j) w e h = go (levels - j) refl
   where
-    go : (k : ℕ) → levels - j ≡ k → lineAfter n F (levels - suc j) ≤ length (joinOf g F low high (restoredAfter g F low high packed n levels j) (partAt n F levels packed (levels - j)))
+    go : (k : ℕ) → levels - j ≡ k → lineAfter n F (levels - suc j) ≤ length (levelJoin g F low high (restoredAfter g F low high packed n levels j) (partAt n F levels packed (levels - j)))
     go zero q = absurd (omega (arith, q, h))
     go (suc k) q =
         let less : levels - suc j ≡ k = omega (arith, q) in
         let c : length (partAt n F levels packed (levels - j)) ≡ pairs (lineAfter n F k) F =
         ap (λ (i : ℕ). length (partAt n F levels packed i)) q ∙ length-part n F levels (suc k) packed (w .packs .sound .taps .two) (omega (arith, q)) (e ∙ whole-length (w .packs)) in
-        let l = length-join g F low high (restoredAfter g F low high packed n levels j) (partAt n F levels packed (levels - j)) in
+        let d = partAt n F levels packed (levels - j) in
+        let l = length-join g F low high (lineLength (length d) F) (take (length d) (restoredAfter g F low high packed n levels j)) d in
         omega (arith, l, c, ap (lineAfter n F) less, w .packs .sound .taps .two)
 
 -- a level's join has room in either buffer

@@ -5,11 +5,11 @@ use mathlib.Core.List.{List}
 use Prim.Native.Nat.{ℕ, _+_, _%_, _≤_}
 use lib.Dec.{eqb}
 use lib.Ieee.{Float, Format}
-use Rattle.numbers.specs.Words.{longest}
+use Rattle.numbers.specs.Words.{longest, headed}
 use Rattle.bank.specs.Lengths.{GoodTaps, lineLength}
 use Rattle.packed.specs.Lengths.{restoringLength}
 use Rattle.packed.specs.Works.{Filled}
-use Rattle.restoring.specs.Lines.{joinOf, laid}
+use Rattle.restoring.specs.Lines.{levelJoin}
 
 -- where join j finds its approximations: in the packed buffer, then in the buffer that the join before wrote
 abbrev pub lineHeld : List Float → List Float → List Float → ℕ → List Float
@@ -17,10 +17,10 @@ lineHeld deepest first second j = cond (eqb j 0) deepest (cond (eqb (j % 2) 0) s
 
 -- what join j leaves of either buffer
 abbrev pub turnFirst : Format → ℕ → List Float → List Float → List Float → List Float → ℕ → List Float → List Float
-turnFirst g F low high line detail j x = cond (eqb (j % 2) 0) (laid (joinOf g F low high line detail) x) x
+turnFirst g F low high line detail j x = cond (eqb (j % 2) 0) (headed (levelJoin g F low high line detail) x) x
 
 abbrev pub turnSecond : Format → ℕ → List Float → List Float → List Float → List Float → ℕ → List Float → List Float
-turnSecond g F low high line detail j x = cond (eqb (j % 2) 0) x (laid (joinOf g F low high line detail) x)
+turnSecond g F low high line detail j x = cond (eqb (j % 2) 0) x (headed (levelJoin g F low high line detail) x)
 
 -- a line and m details by f taps, whose joined line is no shorter than they are, and an output with room for it
 pub record Joining (f line m out : ℕ) : Type 0 where

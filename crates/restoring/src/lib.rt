@@ -61,7 +61,7 @@ pub fn restored_line<'a>(
     first: &'a mut [f64],
     second: &'a mut [f64],
 ) -> &'a mut [f64]
-    ensures { λ r. ⌜ HandedOut (bank .low) (bank .high) (bank .taps) (now (packed .entry)) n levels (now (first .entry)) (now (second .entry)) (now r) ⌝ }
+    ensures { λ r. ⌜ HandedOut (bank .low) (bank .high) (bank .taps) (now (packed .entry)) n levels (first .entry) (second .entry) r ⌝ }
 {
     let f = bank.taps;
     let answer = restore_levels(bank, packed, n, levels, first, second);

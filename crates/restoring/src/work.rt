@@ -2,9 +2,11 @@
 ghost use mathlib.Core.Path.{_≡_};
 ghost use lib.ListN.{length};
 ghost use lib.Ieee.{binary64};
+ghost use Rattle.numbers.specs.Words.{headed};
 ghost use Rattle.bank.specs.Lengths.{Lent};
-ghost use Rattle.restoring.specs.Lines.{joinOf, laid, firstAfter, secondAfter};
+ghost use Rattle.restoring.specs.Lines.{levelJoin, firstAfter, secondAfter};
 ghost use Rattle.restoring.specs.Works.{lineHeld, turnFirst, turnSecond, Joining, Turning, Restoring};
+use bank::lengths::idwt_length;
 use packed::depth::part_of;
 use synthesis::work::join_cleared;
 
@@ -18,10 +20,10 @@ fn join_front<'a>(
     out: &mut [f64],
 )
     requires { ⌜ Lent f (length (now low)) (length (now high)) × Joining f (length (now line)) (length (now detail)) (length (now out)) ⌝ }
-    ensures { λ _. ⌜ now (out .exit) ≡ laid (joinOf binary64 f (now (low .entry)) (now (high .entry)) (now (line .entry)) (now (detail .entry))) (now (out .entry)) ⌝ }
+    ensures { λ _. ⌜ now (out .exit) ≡ headed (levelJoin binary64 f (now (low .entry)) (now (high .entry)) (now (line .entry)) (now (detail .entry))) (now (out .entry)) ⌝ }
 {
     let m = detail.len();
-    let n = 2 * m + 2 - f;
+    let n = idwt_length(m, f);
     join_cleared(low, high, f, &line[..m], detail, &mut out[..n]);
 }
 

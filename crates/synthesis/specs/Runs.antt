@@ -7,14 +7,14 @@ use native.Mathlib.Omega.{arith}
 use native.Mathlib.Nat.{zero-add}
 use lib.ListN.{length, set}
 use lib.Ieee.{Float, Format, nan}
-use Rattle.numbers.specs.Words.{at, tab, placed, replaced}
+use Rattle.numbers.specs.Words.{at, tab, placed, replaced, cleared}
 use Rattle.numbers.specs.Write.{length-tab, getD-tab, written-all, placed-start, placed-step, getD-placed-behind}
 use Rattle.numbers.specs.Places.{tab-same, placed-front, is-placed}
 use Rattle.numbers.specs.Runs.{placed-same, placed-more}
 use Rattle.gathering.specs.Pairs.{onto}
 use Rattle.gathering.specs.Works.{Seconds, gathered, gatheredAt}
 use Rattle.synthesis.specs.Sums.{joined}
-use Rattle.synthesis.specs.Lines.{synthesised}
+use Rattle.synthesis.specs.Lines.{synthesised, joinOf}
 use Rattle.synthesis.specs.Works.{Joinable, Taking, placeOf, joinedFrom}
 use Rattle.synthesis.specs.Gathers.{gathered-all}
 
@@ -25,6 +25,9 @@ still-taking {f} {l} {h} {a} {d} t e = subst (λ (k : ℕ). Taking f l h a d k) 
 pub length-synthesised : (g : Format) (F : ℕ) (low high a d out : List Float) → length (synthesised g F low high a d out) ≡ length out
 unfolding synthesised
 length-synthesised g F low high a d out = length-tab _ (length out)
+
+pub length-join : (g : Format) (F : ℕ) (low high : List Float) (n : ℕ) (a d : List Float) → length (joinOf g F low high n a d) ≡ n
+length-join g F low high n a d = length-synthesised g F low high a d (cleared n) ∙ length-tab _ n
 
 module _ (f : Format) (F : ℕ) (low high a d : List Float) where
   abbrev whole : List Float → ℕ → Float

@@ -12,7 +12,7 @@ use Rattle.synthesis.specs.declared.Synthesis.the-variants.{Done, Approx
 use Rattle.synthesis.specs.Lines.{synthesised}
 use Rattle.bank.specs.Lengths.{badTaps, lineLength}
 
--- document 01's number of an answer, and the values that it carries
+-- the number of an answer, and the values that it carries (RULES, Numbers)
 abbrev pub numberOf : Synthesis → ℕ
 numberOf Done = 0
 numberOf (ApproxDetailsNotMatches a d) = 3

@@ -5,6 +5,7 @@ pub mod work;
 ghost use mathlib.Core.Path.{_≡_};
 ghost use Rattle.synthesis.specs.Syntheses.{answerOf, Synthesised};
 use bank::Bank;
+use bank::lengths::idwt_length;
 use bank::sizes::bad_taps;
 use numbers::LONGEST;
 
@@ -36,7 +37,7 @@ pub fn synthesis_answer(f: usize, approx: usize, detail: usize, out: usize) -> S
     if 2 * approx + 2 <= f {
         return Synthesis::ZeroedBaseSize;
     }
-    let need = 2 * approx + 2 - f;
+    let need = idwt_length(approx, f);
     if out != need {
         return Synthesis::OutputSizeIsNotValid { have: out, need };
     }

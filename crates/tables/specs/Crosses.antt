@@ -25,20 +25,17 @@ module _ (lines n : ℕ) where
   within-crossed : (k r : ℕ) → k < n → r < lines → k * lines + r < lines * n
   within-crossed k r h l = omega (arith, digits-lt {q = k} {m = n} {r = r} {c = lines} h l, mul-comm n lines)
 
-  pub crossed-start : (first end left : ℕ) (x : List Float) → CrossedTo lines n first end left left x x
-  crossed-start first end left x = record {
-    long = refl;
-    across = λ k r g h l m. absurd (omega arith);
-    others = λ k r h l. refl;
-    earlier = λ k r h l. refl;
-    before = λ j h. refl;
-    behind = λ j h. refl;
-  }
+  -- some of the lines and some of their places, in a list that is as long
+  pub some-of : (first end left right : ℕ) (x s : List Float) → Crossable (length x) lines n → length s ≡ length x → first ≤ end → end ≤ lines → left ≤ right → right ≤ n
+      → Strip (length s) lines n first end left right
+  some-of first end left right x s w q h k o i =
+      record { all = record { tall = w .tall; wide = w .wide; room = omega (arith, w .room, q) }; rising = h; last = k; onward = o; inside = i }
 
-  pub crossed-none : (first left c : ℕ) (x : List Float) → CrossedTo lines n first first left c x x
-  crossed-none first left c x = record {
+  -- no line or no place is among them
+  pub crossed-none : (first end left c : ℕ) (x : List Float) → (end ≤ first) ⊎ (c ≤ left) → CrossedTo lines n first end left c x x
+  crossed-none first end left c x e = record {
     long = refl;
-    across = λ k r g h l m. absurd (omega arith);
+    across = λ k r g h l m. ⊎-elim (λ q. absurd (omega arith)) (λ q. absurd (omega arith)) e;
     others = λ k r h l. refl;
     earlier = λ k r h l. refl;
     before = λ j h. refl;

@@ -8,7 +8,7 @@ use Rattle.border.specs.declared.Border.{Border}
 use Rattle.border.specs.declared.Border.the-variants.{Clamp, Wrap, Reflect, Zeros, Reflect101}
 use Rattle.telling.specs.Told.{Told, ToldOf}
 
--- document 01's order
+-- in the order of RULES, Borders
 unfoldable pub borderOf : ℕ → Border
 borderOf k =
     cond (eqb k 0) Clamp

@@ -1,4 +1,4 @@
-// Borders by number, in document 01's order.
+// Borders by number (RULES, Borders).
 ghost use mathlib.Core.Path.{_≡_};
 ghost use Rattle.telling.specs.Borders.{borderOf, noBorder};
 use border::Border;

@@ -5,7 +5,8 @@ use Prim.Native.Nat.{ℕ, zero, suc, _-_, _≤_, _<_, min}
 use native.Mathlib.Omega.{arith}
 use borrow.Rule.Slice.PartMut.{putMid}
 use lib.ListN.{length, take, drop, set, length-drop, drop-of-length-le}
-use Rattle.texts.specs.Laying.{headed, laid}
+use Rattle.numbers.specs.Words.{headed}
+use Rattle.texts.specs.Laying.{laid}
 
 module _ {A : Type 0} where
   pub length-laid : (l x : List A) → length (laid l x) ≡ length x

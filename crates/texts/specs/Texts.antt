@@ -47,7 +47,7 @@ abbrev pub lineText : List ℤ → List ℕ
 lineText [] = newline ∷ []
 lineText (z ∷ zs) = numeral z ++ othersText zs
 
--- the names of the borders, in document 01's letters
+-- the names of the borders, letter by letter
 abbrev pub nameOf : Border → List ℕ
 nameOf Clamp = 67 ∷ 108 ∷ 97 ∷ 109 ∷ 112 ∷ []
 nameOf Wrap = 87 ∷ 114 ∷ 97 ∷ 112 ∷ []

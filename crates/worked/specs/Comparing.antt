@@ -1,4 +1,4 @@
--- Comparing two bands by document 01's rules: the first place that differs, zeros and NaN, and every refusal in turn: each is computed.
+-- Comparing two bands (RULES, Comparing): the first place that differs, zeros and NaN, and every refusal in turn: each is computed.
 use mathlib.Core.Path.{_≡_, refl}
 use mathlib.Core.Bool.{true}
 use mathlib.Core.List.{List, [], _∷_}
@@ -39,7 +39,7 @@ kinds : (answerOf (nan ∷ []) (nan ∷ []) 1 1 ≡ Equal) × (answerOf (nan ∷
 unfolding testsOf tooLarge foundIn firstOf ofInt toBits isNan
 kinds = (refl, refl, refl, refl)
 
--- ---- what is refused, in document 01's order: where several tests fail, the first answers
+-- ---- what is refused, in its order (RULES, Order of tests): where several tests fail, the first answers
 abbrev told : Compared → List ℕ
 told r = numberOf r ∷ valuesOf r
 

@@ -1,4 +1,4 @@
--- Document 01's examples P1 to P12 as one list, in the document's order and numbers, and what it means that they hold. Definitions only; judge/examples.py reads this list.
+-- P1 to P12 (RULES, Examples) as one list, in that order and by those numbers, and what it means that they hold. Definitions only; judge/examples.py reads this list.
 use mathlib.Core.Path.{_≡_}
 use mathlib.Core.List.{List, [], _∷_}
 use Prim.Native.Nat.{ℕ}
@@ -6,11 +6,11 @@ use Rattle.border.specs.declared.Border.{Border}
 use Rattle.border.specs.declared.Border.the-variants.{Clamp, Wrap, Reflect, Zeros, Reflect101}
 use Rattle.worked.specs.Questions.{Signed, +_, -_, floats, Question, Split, Join, Over, Left, Edges, Bands, Approx, Restore, Factor, Convolve, Plane, Answer, Numbers, Line, Lines, Refused, answered}
 
--- the document's number of an example, what it asks, and what the document answers
+-- the number of an example, what it asks, and what RULES, Examples answers
 pub data Example : Type 0 where
   P : ℕ → Question → Answer → Example
 
--- the definitions answer as the document does
+-- the definitions answer as the example says
 abbrev pub Holds : Example → Type 0
 Holds (P k question answer) = answered question ≡ answer
 
@@ -26,7 +26,7 @@ line l = Line (floats l)
 abbrev pub lines : List Signed → List Signed → Answer
 lines first second = Lines (floats first) (floats second)
 
--- b is any border, where the document names none
+-- b is any border, where an example names none
 abbrev pub examples : Border → List Example
 examples b =
     P 1 (Split 4 4) (Numbers (3 ∷ 2 ∷ 2 ∷ []))

@@ -1,4 +1,4 @@
--- What the entries of a plane answer, every refusal in document 01's order: each is computed. Where several tests fail, the first answers.
+-- What the entries of a plane answer, every refusal in its order (RULES, Order of tests): each is computed. Where several tests fail, the first answers.
 use mathlib.Core.Path.{_≡_, refl}
 use mathlib.Core.List.{List, [], _∷_}
 use Prim.Native.Nat.{ℕ}

@@ -1,4 +1,4 @@
--- Planes besides document 01's example: the other bands of P11 and the way back; a plane that tells rows from columns, and one that is padded both ways: each is computed.
+-- Planes besides P11: its other bands and the way back; a plane that tells rows from columns, and one that is padded both ways: each is computed.
 use mathlib.Core.Path.{_≡_, refl}
 use mathlib.Core.List.{List, [], _∷_}
 use Prim.Native.Nat.{ℕ}
@@ -39,7 +39,7 @@ differences = floats (pos 1 ∷ negsuc 0 ∷ [])
 abbrev sixteen : List Float
 sixteen = floats (pos 1 ∷ pos 2 ∷ pos 3 ∷ pos 4 ∷ pos 5 ∷ pos 6 ∷ pos 7 ∷ pos 8 ∷ pos 9 ∷ pos 10 ∷ pos 11 ∷ pos 12 ∷ pos 13 ∷ pos 14 ∷ pos 15 ∷ pos 16 ∷ [])
 
--- LL is the document's; the others by hand: the rows' sums are 3 7, 11 15, 19 23 and 27 31, their differences -1 -1 throughout
+-- LL is P11's; the others by hand: the rows' sums are 3 7, 11 15, 19 23 and 27 31, their differences -1 -1 throughout
 abbrev p11-ll : List Float
 p11-ll = floats (pos 14 ∷ pos 46 ∷ pos 22 ∷ pos 54 ∷ [])
 

@@ -1,4 +1,4 @@
--- The program's own example in document 01, byte by byte, and numbers at the ends of their range: each is computed from the definitions of what `bands` reads and prints.
+-- The program's own example (RULES, The program), byte by byte, and numbers at the ends of their range: each is computed from the definitions of what `bands` reads and prints.
 use mathlib.Core.Path.{_≡_, refl}
 use mathlib.Core.List.{[], _∷_}
 use lib.IntN.{pos, negsuc}
@@ -15,7 +15,7 @@ use Rattle.texts.specs.Prints.{hexOf, refusalText}
 use Rattle.answering.specs.Answers.{outputOf}
 use Rattle.worked.specs.Whole.{eight, eightHigh, tens}
 
--- the document's case
+-- the program's text
 abbrev example : Request
 example = record { border = Clamp; low = eight; high = eightHigh; samples = tens }
 

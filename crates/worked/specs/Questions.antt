@@ -1,16 +1,16 @@
--- What document 01's examples ask, and what is answered by the definitions that the entries' promises cite. Every buffer is as long as the rules say. Definitions only.
+-- What P1 to P12 (RULES, Examples) ask, and what is answered by the definitions that the entries' promises cite. Every buffer is as long as the rules say. Definitions only.
 use mathlib.Core.List.{List, [], _∷_, _++_, map}
-use Prim.Native.Nat.{ℕ, suc, _+_, _-_, _*_, _/_}
+use Prim.Native.Nat.{ℕ, suc, _+_, _*_}
 use lib.IntN.{ℤ, pos, negℤ}
 use lib.ListN.{length}
 use lib.Ieee.{Float, binary64, ofInt, neg}
-use Rattle.numbers.specs.Words.{plusZero, whenDone, tab, cleared}
+use Rattle.numbers.specs.Words.{plusZero, whenDone, tab}
 use Rattle.border.specs.declared.Border.{Border}
 use Rattle.border.specs.Rule.{padded}
-use Rattle.bank.specs.Lengths.{pairs, wholePad, paddedLength, lineLength}
+use Rattle.bank.specs.Lengths.{pairs, leftPad, rightPad, paddedLength, lineLength}
 use Rattle.analysis.specs.Lines.{band}
 use Rattle.analysis.specs.Analyses as Analyses
-use Rattle.synthesis.specs.Lines.{synthesised}
+use Rattle.synthesis.specs.Lines.{joinOf}
 use Rattle.synthesis.specs.Syntheses as Syntheses
 use Rattle.packed.specs.Lengths.{levelsOf, packedLength, levelCount, levelsScratch}
 use Rattle.packed.specs.Answers as Packed
@@ -98,7 +98,7 @@ abbrev pub bandOf : Border → List Signed → List Signed → List Float
 bandOf b taps line = band binary64 (floats taps) (length taps) b (floats line)
 
 abbrev pub answered : Question → Answer
-answered (Split f n) = analysing f n (Numbers (pairs n f ∷ wholePad n f / 2 ∷ (wholePad n f - wholePad n f / 2) ∷ []))
+answered (Split f n) = analysing f n (Numbers (pairs n f ∷ leftPad n f ∷ rightPad n f ∷ []))
 answered (Join f m) = synthesising f m (Numbers (lineLength m f ∷ []))
 answered (Over f n levels) =
     levelling f n levels (Numbers (tab (λ k. levelCount n f levels (suc k)) (levelsOf levels) ++ (levelCount n f levels 0 ∷ packedLength n f levels ∷ [])))
@@ -110,7 +110,7 @@ answered (Approx b low line) = analysing (length low) (length line) (Line (bandO
 answered (Restore low high approx detail) =
     let f = length low in
     let m = length approx in
-    synthesising f m (Line (synthesised binary64 f (floats low) (floats high) (floats approx) (floats detail) (cleared (lineLength m f))))
+    synthesising f m (Line (joinOf binary64 f (floats low) (floats high) (lineLength m f) (floats approx) (floats detail)))
 answered (Factor low) = Line (ofInt binary64 (squares (map whole low)) ∷ [])
 answered (Convolve b line kernel c) =
     convolving b (length line) (length kernel) (whole c) (Line (Convolutions.convolvedLine b (floats line) (floats kernel) (whole c)))

@@ -1,4 +1,4 @@
--- Document 01's examples P1 to P12 hold, all of one list: each is computed.
+-- P1 to P12 (RULES, Examples) hold, all of one list: each is computed.
 use mathlib.Core.Path.{refl}
 use mathlib.Core.List.{[], _∷_}
 use lib.Ieee.{ofInt, add, mul, neg}

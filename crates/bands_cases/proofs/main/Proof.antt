@@ -28,8 +28,11 @@ loop-less c = search needs
 loop-again : tie.Need-loop-again Inv-loop μ-loop
 loop-again c = search needs
 
+answer-untaken-requires : tie.Need-answer-untaken-requires Inv-loop μ-loop
+answer-untaken-requires c κs = search needs
+
 returns : tie.Need-returns Inv-loop μ-loop
 returns c = search needs
 
 pub main-spec : {M : Type 1} → statement M
-main-spec = tie.close (tie.spec Inv-loop μ-loop arg-count-requires loop-holds answer-case-requires add-i loop-less loop-again returns)
+main-spec = tie.close (tie.spec Inv-loop μ-loop arg-count-requires loop-holds answer-case-requires add-i loop-less loop-again answer-untaken-requires returns)

@@ -1,4 +1,4 @@
--- `level_parts::level_details` meets its contract: where handing out is refused the part is empty, and else it is the level's, which lies in the buffer.
+-- `level_parts::level_details` meets its contract: where handing out is refused the part is empty, and else it is the level's, which lies in the buffer, at its start.
 use borrow.Author.Needs.{needs}
 use denote.Enum.Declared.{tagOf, declared}
 use lib.Dec.{lit<}
@@ -37,7 +37,7 @@ returns : tie.Need-returns
 returns c =
     let k = c .before in
     let r = k .before .handing-answer .result in
-    handed-none r (k .before .handing-answer .ensures) (other (tagOf (declared enum)) r refl (key-above 1 1 _ (lit< tt) (k .match .keys2)))
+    handed-none r (k .before .handing-answer .ensures) (other (tagOf (declared enum)) r refl (key-above 1 1 _ (lit< tt) (k .match .keys2))) refl refl
 
 done : (c : tie.After-enum-told) → let a = c .before .before .before .before .args in handingOf (a .n) (a .f) (a .levels) (length (now (a .packed))) (a .level) ≡ Done
 done c = sym (c .before .before .handing-answer .ensures) ∙ c .enum-told .given .1
@@ -74,8 +74,7 @@ part-result-end-2 c = omega (arith, within (c .before))
 returns-2 : tie.Need-returns-2
 returns-2 c =
     let p = c .before .before in
-    let a = p .before .before .before .before .before .args in
-    handed-part (a .n) (a .f) (a .levels) (a .level) (p .part-of .result .start) (p .part-of .result .count) (now (a .packed)) (done (p .before)) (p .part-of .ensures .0) (p .part-of .ensures .1)
+    handed-part {count = p .part-of .result .count} (done (p .before)) (p .part-of .ensures .0) (p .part-of .ensures .1) refl refl
 
 pub level-details-spec : {M : Type 1} → statement M
 level-details-spec =

@@ -5,10 +5,11 @@ use lib.Dec.{lit<}
 use native.Mathlib.Omega.{arith}
 use mathlib.Core.Path.{_≡_, _∙_, refl, sym, ap}
 use Prim.Native.Nat.{ℕ}
+use Rattle.numbers.specs.Words.{andThen}
 use Rattle.numbers.specs.Tests.{key-above, other}
 use Rattle.planes.proofs.Planes.{enum}
 use Rattle.planes.specs.declared.Planes.the-variants.{Done}
-use Rattle.planes.specs.Answers.{andThen, heldOf, bandsOf}
+use Rattle.planes.specs.Answers.{numberOf, heldOf, bandsOf}
 use Rattle.planes.specs.Lengths.{bandLength}
 use Rattle.planes.specs.Tested.{stopped, went-on, held-done}
 use Rattle.plane_synthesis.specs.Syntheses.{answerOf}
@@ -44,7 +45,7 @@ enum-told-2 c = search needs
 -- what the bands' test says follows
 after : (c : tie.After-bands-answer)
     → let a = c .before .before .before .before .before .args in
-    c .bands-answer .result ≡ andThen (heldOf (a .width) (a .height) (a .f) (a .plane) (a .scratch)) (bandsOf (bandLength (a .width) (a .height) (a .f)) (a .ll) (a .lh) (a .hl) (a .hh))
+    c .bands-answer .result ≡ andThen numberOf (heldOf (a .width) (a .height) (a .f) (a .plane) (a .scratch)) (bandsOf (bandLength (a .width) (a .height) (a .f)) (a .ll) (a .lh) (a .hl) (a .hh))
 after c =
     let n = c .before in
     let a = n .before .before .before .before .args in

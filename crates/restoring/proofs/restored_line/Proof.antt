@@ -29,7 +29,7 @@ returns : tie.Need-returns
 returns c =
     let k = c .before in
     let r = k .before .before .before .before .before .restore-levels .result in
-    none-handed r (k .before .before .before .before .before .restore-levels .ensures .answer) (other (tagOf (declared enum)) r refl (key-above 5 1 _ (lit< tt) (k .match .keys2)))
+    none-handed r (k .before .before .before .before .before .restore-levels .ensures .answer) (other (tagOf (declared enum)) r refl (key-above 5 1 _ (lit< tt) (k .match .keys2))) refl refl
 
 -- every test passed
 all : (c : tie.After-enum-told) → let a = c .before .before .before .before .before .before .before .before .before .before .before .before .args in
@@ -68,8 +68,8 @@ returns-2 c =
     let e = need .before in
     let w = e .before .before .before .before .before .before in
     let a = w .before .before .before .before .before .before .args in
-    second-handed (a .bank .low) (a .bank .high) (a .bank .taps) (now (a .packed)) (a .n) (a .levels) (now (a .first)) (now (a .second)) _ _ (w .restore-levels .result) (t .before .most .result) _
-    (w .restore-levels .ensures) (e .enum-told .given .1) (t .before .most .ensures) (need .restoring-need .ensures) (omega (arith, t .if1 .taken))
+    second-handed (a .bank .low) (a .bank .high) (a .bank .taps) (now (a .packed)) (a .n) (a .levels) (a .first) (a .second) _ _ _ (w .restore-levels .result) (t .before .most .result) _
+    (w .restore-levels .ensures) (e .enum-told .given .1) (t .before .most .ensures) (need .restoring-need .ensures) (omega (arith, t .if1 .taken)) refl refl
 
 returns-3 : tie.Need-returns-3
 returns-3 c =
@@ -78,8 +78,8 @@ returns-3 c =
     let e = need .before in
     let w = e .before .before .before .before .before .before in
     let a = w .before .before .before .before .before .before .args in
-    first-handed (a .bank .low) (a .bank .high) (a .bank .taps) (now (a .packed)) (a .n) (a .levels) (now (a .first)) (now (a .second)) _ _ (w .restore-levels .result) (t .before .most .result) _
-    (w .restore-levels .ensures) (e .enum-told .given .1) (t .before .most .ensures) (need .restoring-need .ensures) (λ e. absurd (omega (arith, e, t .if1 .left)))
+    first-handed (a .bank .low) (a .bank .high) (a .bank .taps) (now (a .packed)) (a .n) (a .levels) (a .first) (a .second) _ _ _ (w .restore-levels .result) (t .before .most .result) _
+    (w .restore-levels .ensures) (e .enum-told .given .1) (t .before .most .ensures) (need .restoring-need .ensures) (λ e. absurd (omega (arith, e, t .if1 .left))) refl refl
 
 pub restored-line-spec : {M : Type 1} → statement M
 restored-line-spec =

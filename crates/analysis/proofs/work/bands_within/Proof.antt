@@ -1,14 +1,15 @@
 -- `analysis::work::bands_within` meets its contract: it goes on from the eights, and each turn writes one place of either band, which is the pair of sums over a line that lies behind both.
 use borrow.Author.Needs.{needs}
-use Prim.Native.Nat.{ℕ, _+_, _-_, _*_, _≤_, _<_}
+use borrow.Rule.Slice.PartMut.{mid-len}
+use Prim.Native.Nat.{ℕ, _+_, _-_, _≤_, _<_}
 use native.Mathlib.Omega.{arith}
 use mathlib.Core.List.{List, _++_}
 use mathlib.Core.Path.{_≡_, refl, sym, ap, subst, _∙_}
 use denote.Ref.{now}
-use lib.ListN.{length, take, drop, length-set, length-drop}
-use lib.Seq.{length-take-le}
+use lib.ListN.{length, length-set}
 use lib.Ieee.{Float, binary64}
 use Rattle.numbers.specs.Words.{at, tab, placed}
+use Rattle.bank.specs.Lengths.{spanned}
 use Rattle.analysis.specs.Works.{bandOf, Halves, lineAt}
 use Rattle.analysis.specs.Halves.{halves-again, halves-all, halves-from, halves-step, line-same}
 use Rattle.analysis.proofs.work.bands_within.Statement.{statement}
@@ -21,9 +22,9 @@ abbrev μ-loop : tie.MeasureT-loop
 μ-loop low high f s₀ from to m end i₀ s i = m - i
 
 -- where a place is written
-room : (c : tie.In-loop Inv-loop μ-loop) → let a = c .before .before .before .before .before .before .before .before .before .args in
+room : (c : tie.In-loop Inv-loop μ-loop) → let a = c .before .before .before .before .before .before .before .before .before .before .args in
     (a .to + a .m + c .before .loop .i < length (now (a .s))) × (length (c .before .loop .s) ≡ length (now (a .s)))
-room c = let e = c .before .before .before .before in let s = e .before .before .before .before .before in
+room c = let e = c .before .before .before .before in let s = e .before .before .before .before .before .before in
     (omega (arith, c .loop-test .taken, s .pre .before, s .pre .within), c .before .loop .inv .1 .long ∙ e .eights-within .ensures .1 .long)
 
 -- i places of either band of the line in x, written over y, stand in s
@@ -33,7 +34,7 @@ Stands low high f from to m i x y s = Halves (bandOf binary64 low f (lineAt f fr
 -- what the eights left, told of itself: its line is the line as it was
 begun : (low high : List Float) (f from to m r : ℕ) (x y : List Float) → to + (m + m) ≤ from → Stands low high f from to m r x x y → Stands low high f from to m r y y y
 begun low high f from to m r x y before p =
-    let same = sym (line-same _ _ f from to m r (2 * m + f - 2) x y before refl p) in
+    let same = sym (line-same _ _ f from to m r (spanned m f) x y before refl p) in
     halves-again (bandOf binary64 low f (lineAt f from m y)) (bandOf binary64 high f (lineAt f from m y)) to m r p
     (λ j l. ap (λ (z : List Float). bandOf binary64 low f z j) same) (λ j l. ap (λ (z : List Float). bandOf binary64 high f z j) same)
 
@@ -44,31 +45,25 @@ told : (low high : List Float) (f from to m r i : ℕ) (x y s : List Float) → 
 told low high f from to m r i x y s before within u v p q =
     let e : i ≡ m = omega arith in
     halves-all _ _ to m x s (omega arith) (subst (λ (k : ℕ). Stands low high f from to m k y x s) e (halves-from to m r i p q))
-    ∙ ap (λ (l : List Float). placed (at (tab (bandOf binary64 low f l) m ++ tab (bandOf binary64 high f l) m)) to (m + m) x) (line-same _ _ f from to m r (2 * m + f - 2) x y before refl p)
+    ∙ ap (λ (l : List Float). placed (at (tab (bandOf binary64 low f l) m ++ tab (bandOf binary64 high f l) m)) to (m + m) x) (line-same _ _ f from to m r (spanned m f) x y before refl p)
 
-mul-end : tie.Need-mul-end Inv-loop μ-loop
-mul-end c = search needs
+padded-length-requires : tie.Need-padded-length-requires Inv-loop μ-loop
+padded-length-requires c κs = search needs
 
 add-end : tie.Need-add-end Inv-loop μ-loop
 add-end c = search needs
-
-sub-end : tie.Need-sub-end Inv-loop μ-loop
-sub-end c = search needs
-
-add-end-2 : tie.Need-add-end-2 Inv-loop μ-loop
-add-end-2 c = search needs
 
 eights-within-requires : tie.Need-eights-within-requires Inv-loop μ-loop
 eights-within-requires c κs = search needs
 
 loop-holds : tie.Need-loop-holds Inv-loop μ-loop
-loop-holds c = let e = c .before .before in let s = e .before .before .before .before .before in let a = s .args in (
+loop-holds c = let e = c .before .before in let s = e .before .before .before .before .before .before in let a = s .args in (
   e .eights-within .ensures .0,
   begun (now (a .low)) (now (a .high)) (a .f) (a .from) (a .to) (a .m) (e .eights-within .result) (now (a .s)) _ (s .pre .before) (e .eights-within .ensures .1),
 )
 
 mul-place : tie.Need-mul-place Inv-loop μ-loop
-mul-place c = let s = c .before .before .before .before .before .before .before .before .before in omega (arith, room c, s .pre .within, s .pre .two)
+mul-place c = let p = c .before .before .before .before .before .before in omega (arith, room c, p .padded-length .ensures, p .before .before .before .before .pre .within)
 
 sub-place : tie.Need-sub-place Inv-loop μ-loop
 sub-place c = search needs
@@ -77,7 +72,7 @@ part-place-start : tie.Need-part-place-start Inv-loop μ-loop
 part-place-start c = search needs
 
 part-place-end : tie.Need-part-place-end Inv-loop μ-loop
-part-place-end c = let s = c .before .before .before .before .before .before .before .before .before .before in omega (arith, room (c .before), s .pre .within, s .pre .two)
+part-place-end c = let p = c .before .before .before .before .before .before .before in omega (arith, room (c .before), p .padded-length .ensures, p .before .before .before .before .pre .within)
 
 mul-place-2 : tie.Need-mul-place-2 Inv-loop μ-loop
 mul-place-2 c = search needs
@@ -86,11 +81,11 @@ place-requires : tie.Need-place-requires Inv-loop μ-loop
 place-requires c κs =
     let w = c .before .before in
     let l = w .before in
-    let s = l .before .before .before .before .before .before .before .before in
+    let p = l .before .before .before .before .before in
+    let s = p .before .before .before .before in
     let a = s .args in
-    let n = length-take-le (2 * a .m + a .f - 2) (drop (a .from) (l .loop .s)) (omega (arith, length-drop (a .from) (l .loop .s), room w, s .pre .within)) in
-    let e : a .from + (2 * a .m + a .f - 2) - a .from ≡ 2 * a .m + a .f - 2 = omega arith in
-    record { lows = s .pre .lows; highs = s .pre .highs; within = omega (arith, n, ap (λ (k : ℕ). length (take k (drop (a .from) (l .loop .s)))) e, w .loop-test .taken, s .pre .two) }
+    let n = mid-len (a .from) (a .from + p .padded-length .result) (l .loop .s) (omega (arith, room w, p .padded-length .ensures, s .pre .within)) in
+    record { lows = s .pre .lows; highs = s .pre .highs; within = omega (arith, n, p .padded-length .ensures, w .loop-test .taken, s .pre .sound .taps .two) }
 
 add-s : tie.Need-add-s Inv-loop μ-loop
 add-s c = search needs
@@ -108,11 +103,11 @@ add-s-3 : tie.Need-add-s-3 Inv-loop μ-loop
 add-s-3 c = search needs
 
 mul-s-2 : tie.Need-mul-s-2 Inv-loop μ-loop
-mul-s-2 c = let w = c .before .before .before in let s = w .before .before .before .before .before .before .before .before .before in
+mul-s-2 c = let w = c .before .before .before in let s = w .before .before .before .before .before .before .before .before .before .before in
     omega (arith, room w, s .good .1 .1 .1 .0)
 
 slice-write-s-2 : tie.Need-slice-write-s-2 Inv-loop μ-loop
-slice-write-s-2 c = let w = c .before .before .before in let l = w .before in let a = l .before .before .before .before .before .before .before .before .args in
+slice-write-s-2 c = let w = c .before .before .before in let l = w .before in let a = l .before .before .before .before .before .before .before .before .before .args in
     omega (arith, room w, length-set (l .loop .s) (a .to + l .loop .i) (c .place .result .approx))
 
 add-i : tie.Need-add-i Inv-loop μ-loop
@@ -126,10 +121,11 @@ loop-again c =
     let w = c .before .before .before in
     let l = w .before in
     let e = l .before .before .before in
-    let s = e .before .before .before .before .before in
+    let p = e .before .before in
+    let s = p .before .before .before .before in
     let a = s .args in
     let i = l .loop .i in
-    let same = line-same _ _ (a .f) (a .from) (a .to) (a .m) i (a .from + (2 * a .m + a .f - 2) - a .from) _ (l .loop .s) (s .pre .before) (omega arith) (l .loop .inv .1) in (
+    let same = line-same _ _ (a .f) (a .from) (a .to) (a .m) i (a .from + p .padded-length .result - a .from) _ (l .loop .s) (s .pre .before) (omega (arith, p .padded-length .ensures)) (l .loop .inv .1) in (
       omega (arith, w .loop-test .taken),
       halves-step _ _ (a .to) (a .m) i _ (l .loop .s) _ _ (w .loop-test .taken) (omega (arith, s .pre .before, s .pre .within, e .eights-within .ensures .1 .long)) (l .loop .inv .1)
           (c .place .ensures .0 ∙ ap (λ (y : List Float). bandOf binary64 (now (a .low)) (a .f) y i) same)
@@ -143,7 +139,7 @@ returns : tie.Need-returns Inv-loop μ-loop
 returns c =
     let l = c .before in
     let e = l .before .before .before in
-    let s = e .before .before .before .before .before in
+    let s = e .before .before .before .before .before .before in
     let a = s .args in
     told (now (a .low)) (now (a .high)) (a .f) (a .from) (a .to) (a .m) (e .eights-within .result) (l .loop .i) (now (a .s)) _ (l .loop .s)
     (s .pre .before) (omega (arith, s .pre .within)) (l .loop .inv .0) (c .loop-test .left) (e .eights-within .ensures .1) (l .loop .inv .1)
@@ -154,10 +150,8 @@ bands-within-spec =
     (tie.spec
     Inv-loop
     μ-loop
-    mul-end
+    padded-length-requires
     add-end
-    sub-end
-    add-end-2
     eights-within-requires
     loop-holds
     mul-place

@@ -1,13 +1,13 @@
 -- `analysis::work::eights_within` meets its contract: each turn puts eight places of either band, which are sums over a line that lies behind both.
 use borrow.Author.Needs.{needs}
-use Prim.Native.Nat.{ℕ, _+_, _-_, _*_, _≤_}
+use borrow.Rule.Slice.PartMut.{mid-len}
+use Prim.Native.Nat.{_+_, _-_, _≤_}
 use native.Mathlib.Omega.{arith}
 use mathlib.Core.List.{List}
 use mathlib.Core.Bool.{true, false}
 use mathlib.Core.Path.{_≡_, _∙_, ap}
 use denote.Ref.{now}
-use lib.ListN.{length, take, drop, length-drop}
-use lib.Seq.{length-take-le}
+use lib.ListN.{length, take, drop}
 use lib.Ieee.{Float, binary64}
 use Rattle.summing.specs.Pairs.{pairAt, sumOf}
 use Rattle.analysis.specs.Pairs.{sums-at}
@@ -23,20 +23,14 @@ abbrev μ-loop : tie.MeasureT-loop
 μ-loop low high f s₀ from to m end i₀ s i = m - i
 
 -- what a turn knows: its places are within the list, and the list is as long as it was
-room : (c : tie.In-loop Inv-loop μ-loop) → let a = c .before .before .before .before .before .args in (a .to + a .m + c .before .loop .i + 8 ≤ length (now (a .s))) × (length (c .before .loop .s) ≡ length (now (a .s)))
-room c = let s = c .before .before .before .before .before in (omega (arith, c .loop-test .taken, s .pre .before, s .pre .within), c .before .loop .inv .1 .long)
+room : (c : tie.In-loop Inv-loop μ-loop) → let a = c .before .before .before .before .before .before .args in (a .to + a .m + c .before .loop .i + 8 ≤ length (now (a .s))) × (length (c .before .loop .s) ≡ length (now (a .s)))
+room c = let s = c .before .before .before .before .before .before in (omega (arith, c .loop-test .taken, s .pre .before, s .pre .within), c .before .loop .inv .1 .long)
 
-mul-end : tie.Need-mul-end Inv-loop μ-loop
-mul-end c = search needs
+padded-length-requires : tie.Need-padded-length-requires Inv-loop μ-loop
+padded-length-requires c κs = search needs
 
 add-end : tie.Need-add-end Inv-loop μ-loop
 add-end c = search needs
-
-sub-end : tie.Need-sub-end Inv-loop μ-loop
-sub-end c = search needs
-
-add-end-2 : tie.Need-add-end-2 Inv-loop μ-loop
-add-end-2 c = search needs
 
 loop-holds : tie.Need-loop-holds Inv-loop μ-loop
 loop-holds c = (search needs, halves-start _ _ _ _ _)
@@ -45,7 +39,7 @@ add-loop : tie.Need-add-loop Inv-loop μ-loop
 add-loop c = search needs
 
 mul-eight : tie.Need-mul-eight Inv-loop μ-loop
-mul-eight c = omega (arith, c .before .loop .inv .1 .long, c .before .before .before .before .before .pre .within, c .before .before .before .before .before .pre .two)
+mul-eight c = let l = c .before in let p = l .before in omega (arith, l .loop .inv .1 .long, p .padded-length .ensures, p .before .before .before .before .pre .within)
 
 sub-eight : tie.Need-sub-eight Inv-loop μ-loop
 sub-eight c = search needs
@@ -54,7 +48,7 @@ part-eight-start : tie.Need-part-eight-start Inv-loop μ-loop
 part-eight-start c = search needs
 
 part-eight-end : tie.Need-part-eight-end Inv-loop μ-loop
-part-eight-end c = let l = c .before .before in omega (arith, l .loop .inv .1 .long, l .before .before .before .before .pre .within, l .before .before .before .before .pre .two)
+part-eight-end c = let l = c .before .before in let p = l .before in omega (arith, l .loop .inv .1 .long, p .padded-length .ensures, p .before .before .before .before .pre .within)
 
 mul-eight-2 : tie.Need-mul-eight-2 Inv-loop μ-loop
 mul-eight-2 c = search needs
@@ -63,11 +57,11 @@ eight-requires : tie.Need-eight-requires Inv-loop μ-loop
 eight-requires c κs =
     let w = c .before .before in
     let l = w .before in
-    let s = l .before .before .before .before in
+    let p = l .before in
+    let s = p .before .before .before .before in
     let a = s .args in
-    let n = length-take-le (2 * a .m + a .f - 2) (drop (a .from) (l .loop .s)) (omega (arith, length-drop (a .from) (l .loop .s), l .loop .inv .1 .long, s .pre .within)) in
-    let e : a .from + (2 * a .m + a .f - 2) - a .from ≡ 2 * a .m + a .f - 2 = omega arith in
-    record { lows = s .pre .lows; highs = s .pre .highs; within = omega (arith, n, ap (λ (k : ℕ). length (take k (drop (a .from) (l .loop .s)))) e, w .loop-test .taken, s .pre .two) }
+    let n = mid-len (a .from) (a .from + p .padded-length .result) (l .loop .s) (omega (arith, l .loop .inv .1 .long, p .padded-length .ensures, s .pre .within)) in
+    record { lows = s .pre .lows; highs = s .pre .highs; within = omega (arith, n, p .padded-length .ensures, w .loop-test .taken, s .pre .sound .taps .two) }
 
 add-put : tie.Need-add-put Inv-loop μ-loop
 add-put c = search needs
@@ -97,7 +91,8 @@ loop-again c =
     let g = p .before .before in
     let w = g .before .before .before in
     let l = w .before in
-    let s = l .before .before .before .before in
+    let e = l .before in
+    let s = e .before .before .before .before in
     let a = s .args in
     let x = now (a .s) in
     let i = l .loop .i in
@@ -105,8 +100,8 @@ loop-again c =
     let high = now (a .high) in
     let line = lineAt (a .f) (a .from) (a .m) x in
     let pairs = g .eight .result in
-    let there = take (a .from + (2 * a .m + a .f - 2) - a .from) (drop (a .from) (l .loop .s)) in
-    let same : there ≡ line = line-same _ _ (a .f) (a .from) (a .to) (a .m) i (a .from + (2 * a .m + a .f - 2) - a .from) x (l .loop .s) (s .pre .before) (omega arith) (l .loop .inv .1) in (
+    let there = take (a .from + e .padded-length .result - a .from) (drop (a .from) (l .loop .s)) in
+    let same : there ≡ line = line-same _ _ (a .f) (a .from) (a .to) (a .m) i (a .from + e .padded-length .result - a .from) x (l .loop .s) (s .pre .before) (omega (arith, e .padded-length .ensures)) (l .loop .inv .1) in (
       omega (arith, w .loop-test .taken),
       halves-run (bandOf binary64 low (a .f) line) (bandOf binary64 high (a .f) line) (λ q. sumOf false (pairAt pairs q)) (λ q. sumOf true (pairAt pairs q)) (a .to) (a .m) i 8 x (l .loop .s)
           (omega (arith, w .loop-test .taken)) (omega (arith, s .pre .before, s .pre .within)) (l .loop .inv .1)
@@ -127,10 +122,8 @@ eights-within-spec =
     (tie.spec
     Inv-loop
     μ-loop
-    mul-end
+    padded-length-requires
     add-end
-    sub-end
-    add-end-2
     loop-holds
     add-loop
     mul-eight

@@ -7,12 +7,12 @@ use Rattle.bank.proofs.sizes.Size.{enum}
 use borrow.Author.Needs.{needs}
 use Rattle.bank.proofs.sizes.analysis_scratch.Statement.{statement}
 use Rattle.bank.proofs.sizes.analysis_scratch.Tie as tie
-use Prim.Native.Nat.{_<_, _*_, _+_, _-_, ℕ}
-use Rattle.bank.specs.Tested.{sized-alike, sized, Sized}
+use Prim.Native.Nat.{_<_, ℕ}
+use Rattle.bank.specs.Tested.{sized-alike, sized, Sized, sound-pairs}
 use Rattle.numbers.specs.Tests.{key-above}
 use lib.Dec.{lit<}
 use native.Mathlib.Omega.{arith}
-use Rattle.bank.specs.Lengths.{paddedLength, pairs}
+use Rattle.bank.specs.Lengths.{paddedLength, pairs, spanned}
 use mathlib.Core.Path.{_∙_, sym, ap}
 
 -- an answer other than the first is a refusal
@@ -38,19 +38,16 @@ returns c = let a = c .before .before .args in record {
 all : (c : tie.After-known-told) → let a = c .before .before .before .before .args in Sized (a .n) (a .f) (pairs (a .n) (a .f)) (c .before .size .given .0 .0)
 all c = let s = c .before .before .before in sized _ _ _ _ (sym (s .band-length .ensures .answer) ∙ c .before .size .given .1)
 
-mul-t5 : tie.Need-mul-t5
-mul-t5 c = omega (arith, all c .given, all c .ready .taps .most, all c .ready .limit)
-
-add-t6 : tie.Need-add-t6
-add-t6 c = omega (arith, all c .given, all c .ready .taps .most, all c .ready .limit)
-
-sub-t7 : tie.Need-sub-t7
-sub-t7 c = omega (arith, all c .ready .taps .two)
+padded-length-requires : tie.Need-padded-length-requires
+padded-length-requires c κs = let s = all c in sound-pairs (record { taps = s .ready .taps; limit = s .ready .limit }) (s .given)
 
 returns-2 : tie.Need-returns-2
-returns-2 c = let a = c .before .before .before .before .args in record { answer = ap (λ (m : ℕ). Length (2 * m + a .f - 2)) (all c .given) ∙ all c .other (paddedLength (a .n) (a .f)) }
+returns-2 c =
+    let s = all (c .before) in
+    let a = c .before .before .before .before .before .args in
+    record { answer = ap Length (c .padded-length .ensures ∙ ap (λ (m : ℕ). spanned m (a .f)) (s .given)) ∙ s .other (paddedLength (a .n) (a .f)) }
 
 pub analysis-scratch-spec : {M : Type 1} → statement M
 analysis-scratch-spec =
     tie.close
-    (tie.spec band-length-requires enum-known-size returns mul-t5 add-t6 sub-t7 returns-2)
+    (tie.spec band-length-requires enum-known-size returns padded-length-requires returns-2)

@@ -3,7 +3,10 @@ use borrow.Author.Needs.{needs}
 use Rattle.bank.proofs.sizes.line_length.Statement.{statement}
 use Rattle.bank.proofs.sizes.line_length.Tie as tie
 use borrow.Author.Tests.{le-leb, le-ltb, lt-leb, lt-ltb}
-use mathlib.Core.Path.{_∙_, sym}
+use mathlib.Core.Path.{_∙_, sym, ap}
+use native.Mathlib.Omega.{arith}
+use Rattle.bank.specs.declared.sizes.Size.the-variants.{Length}
+use Rattle.bank.specs.Tested.{good-taps}
 
 bad-taps-requires : tie.Need-bad-taps-requires
 bad-taps-requires c κs = search needs
@@ -23,17 +26,13 @@ add-if3 c = search needs
 returns-3 : tie.Need-returns-3
 returns-3 c = record { answer = simp (sym (c .before .before .before .bad-taps .ensures) ∙ c .before .before .if1 .left, le-ltb _ _ (c .before .if2 .left), le-leb _ _ (c .if3 .taken)) }
 
-mul-t5 : tie.Need-mul-t5
-mul-t5 c = search needs
-
-add-t6 : tie.Need-add-t6
-add-t6 c = search needs
-
-sub-t7 : tie.Need-sub-t7
-sub-t7 c = search needs
+idwt-length-requires : tie.Need-idwt-length-requires
+idwt-length-requires c κs = (record { taps = good-taps _ (sym (c .before .before .before .bad-taps .ensures) ∙ c .before .before .if1 .left); limit = c .before .if2 .left }, omega (arith, c .if3 .left))
 
 returns-4 : tie.Need-returns-4
-returns-4 c = record { answer = simp (sym (c .before .before .before .bad-taps .ensures) ∙ c .before .before .if1 .left, le-ltb _ _ (c .before .if2 .left), lt-leb _ _ (c .if3 .left)) }
+returns-4 c =
+    let w = c .before in
+    record { answer = ap Length (c .idwt-length .ensures) ∙ simp (sym (w .before .before .before .bad-taps .ensures) ∙ w .before .before .if1 .left, le-ltb _ _ (w .before .if2 .left), lt-leb _ _ (w .if3 .left)) }
 
 pub line-length-spec : {M : Type 1} → statement M
-line-length-spec = tie.close (tie.spec bad-taps-requires returns returns-2 mul-if3 add-if3 returns-3 mul-t5 add-t6 sub-t7 returns-4)
+line-length-spec = tie.close (tie.spec bad-taps-requires returns returns-2 mul-if3 add-if3 returns-3 idwt-length-requires returns-4)

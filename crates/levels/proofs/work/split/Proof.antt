@@ -64,20 +64,17 @@ pad-level-requires c κs = let t = lengths (c .before .before) .held in
       inside = omega (arith, t .inside, i .3);
     }
 
-add-n : tie.Need-add-n Inv-loop μ-loop
-add-n c = let r = lengths (c .before .before .before .before .before) .held .next .ready in omega (arith, r .limit, r .taps .most)
-
-sub-n : tie.Need-sub-n Inv-loop μ-loop
-sub-n c = search needs
+dwt-length-requires : tie.Need-dwt-length-requires Inv-loop μ-loop
+dwt-length-requires c κs = let r = lengths (c .before .before .before .before .before) .held .next .ready in record { taps = r .taps; limit = r .limit }
 
 add-end : tie.Need-add-end Inv-loop μ-loop
-add-end c = omega (arith, lengths (c .before .before .before .before .before) .inside, c .before .before .before .before .before .before .before .before .before .before .before .before .pre .1 .packs .filled)
+add-end c = let w = c .before .before .before .before .before .before in omega (arith, c .dwt-length .ensures, lengths w .inside, w .before .before .before .before .before .before .before .pre .1 .packs .filled)
 
 add-end-2 : tie.Need-add-end-2 Inv-loop μ-loop
-add-end-2 c = omega (arith, lengths (c .before .before .before .before .before) .inside, c .before .before .before .before .before .before .before .before .before .before .before .before .pre .1 .packs .filled)
+add-end-2 c = let w = c .before .before .before .before .before .before in omega (arith, c .dwt-length .ensures, lengths w .inside, w .before .before .before .before .before .before .before .pre .1 .packs .filled)
 
 mul-bands-beside : tie.Need-mul-bands-beside Inv-loop μ-loop
-mul-bands-beside c = omega (arith, lengths (c .before .before .before .before .before .before) .inside, c .before .before .before .before .before .before .before .loop .inv .3)
+mul-bands-beside c = let d = c .before in let w = d .before .before .before .before .before .before in omega (arith, d .dwt-length .ensures, lengths w .inside, w .before .loop .inv .3, w .before .before .before .before .before .before .before .good .1 .1 .1 .1 .1 .1 .0)
 
 sub-bands-beside : tie.Need-sub-bands-beside Inv-loop μ-loop
 sub-bands-beside c = search needs
@@ -86,25 +83,26 @@ part-bands-beside-start : tie.Need-part-bands-beside-start Inv-loop μ-loop
 part-bands-beside-start c = search needs
 
 part-bands-beside-end : tie.Need-part-bands-beside-end Inv-loop μ-loop
-part-bands-beside-end c = omega (arith, lengths (c .before .before .before .before .before .before) .inside, c .before .before .before .before .before .before .before .loop .inv .3)
+part-bands-beside-end c = let d = c .before in let w = d .before .before .before .before .before .before in omega (arith, d .dwt-length .ensures, lengths w .inside, w .before .loop .inv .3)
 
 bands-beside-requires : tie.Need-bands-beside-requires Inv-loop μ-loop
 bands-beside-requires c κs =
-    let p = c .before .before .before .before in
+    let d = c .before .before in
+    let p = d .before .before .before in
     let w = p .before .before .before in
     let t = lengths w in
     let l = w .before in
     let s = l .before .before .before .before .before .before in
-    let m = pairs (l .loop .n) (s .args .f) in
+    let m = d .dwt-length .result in
     record {
       lows = omega (arith, s .pre .0);
       highs = omega (arith, s .pre .0);
-      filled = mid-len (l .loop .start) (l .loop .start + (m + m)) (l .loop .packed) (omega (arith, t .inside, l .loop .inv .3)) ∙ omega arith;
-      within = omega (arith, t .held .next .room, t .held .next .ready .taps .two, l .loop .inv .4, p .pad-level .kept .1 .1 .1 .1 .1 .1 .1 .0);
+      filled = mid-len (l .loop .start) (l .loop .start + (m + m)) (l .loop .packed) (omega (arith, d .dwt-length .ensures, t .inside, l .loop .inv .3)) ∙ omega arith;
+      within = omega (arith, d .dwt-length .ensures, t .held .next .room, t .held .next .ready .taps .two, l .loop .inv .4, p .pad-level .kept .1 .1 .1 .1 .1 .1 .1 .0);
     }
 
 add-start : tie.Need-add-start Inv-loop μ-loop
-add-start c = omega (arith, lengths (c .before .before .before .before .before .before .before .before .before .before) .inside, c .before .before .before .before .before .before .before .before .before .before .before .loop .inv .3)
+add-start c = let d = c .before .before .before .before .before in let w = d .before .before .before .before .before .before in omega (arith, d .dwt-length .ensures, lengths w .inside, w .before .loop .inv .3, w .before .before .before .before .before .before .before .good .1 .1 .1 .1 .1 .1 .0)
 
 add-k : tie.Need-add-k Inv-loop μ-loop
 add-k c = search needs
@@ -115,7 +113,8 @@ loop-less c = search needs
 loop-again : tie.Need-loop-again Inv-loop μ-loop
 loop-again c =
     let b = c .before .before in
-    let p = b .before .before .before .before .before in
+    let d = b .before .before .before in
+    let p = d .before .before .before in
     let w = p .before .before .before in
     let l = w .before in
     let s = l .before .before .before .before .before .before in
@@ -124,14 +123,15 @@ loop-again c =
     let k = l .loop .k in
     let start = l .loop .start in
     let n = l .loop .n in
-    let m = pairs n (a .f) in
+    let m = d .dwt-length .result in
+    let em = d .dwt-length .ensures in
     let t = lengths w in
     let line = now (a .line) in
     let next = level-more (now (a .low)) (now (a .high)) (a .f) (a .border) line (l .loop .packed) (l .loop .scratch) _ k start n m (start + (m + m)) _
-    refl (omega (arith, t .inside, i .3)) (i .2) refl (i .5) (i .6) (p .pad-level .ensures) (b .bands-beside .ensures) in (
+    refl (omega (arith, em, t .inside, i .3)) (i .2) em (i .5) (i .6) (p .pad-level .ensures) (b .bands-beside .ensures) in (
       omega (arith, w .loop-test .taken),
-      omega (arith, i .1, t .next, details-next (length line) (a .f) k),
-      t .next,
+      omega (arith, em, i .1, t .next, details-next (length line) (a .f) k),
+      em ∙ t .next,
       same-len-mid start (start + (m + m) - start) (l .loop .packed) (b .bands-beside .last .1 .1 .1 .1 .0) (b .bands-beside .kept .1 .1 .1 .1 .0) ∙ i .3,
       p .pad-level .kept .1 .1 .1 .1 .1 .1 .1 .0 ∙ i .4,
       next .0,
@@ -166,8 +166,7 @@ split-spec =
     μ-loop
     loop-holds
     pad-level-requires
-    add-n
-    sub-n
+    dwt-length-requires
     add-end
     add-end-2
     mul-bands-beside

@@ -2,9 +2,8 @@
 use borrow.Author.Needs.{needs}
 use borrow.Author.Tests.{leb-true, leb-false}
 use Prim.Native.Nat.{ℕ, _+_, _-_, _*_, _≤_}
-use Rattle.bank.specs.Lengths.{pairs}
+use Rattle.bank.specs.Lengths.{pairs, Sound}
 use Rattle.packed.specs.Lengths.{lineAfter, tooShort, detailsTo}
-use Rattle.packed.specs.Works.{Sound}
 use Rattle.packed.specs.Falls.{line-none, line-next, details-none, details-next, short-none, short-next, fallen}
 use Rattle.packed.proofs.depth.down.Statement.{statement}
 use Rattle.packed.proofs.depth.down.Tie as tie
@@ -38,14 +37,11 @@ sums c =
 loop-holds : tie.Need-loop-holds Inv-loop μ-loop
 loop-holds c = (search needs, short-none (c .args .n) (c .args .f), details-none (c .args .n) (c .args .f), line-none (c .args .n) (c .args .f))
 
-add-line : tie.Need-add-line Inv-loop μ-loop
-add-line c = omega (arith, sums c, c .before .before .before .pre .taps .most)
-
-sub-line : tie.Need-sub-line Inv-loop μ-loop
-sub-line c = omega (arith, c .before .before .before .pre .taps .two)
+dwt-length-requires : tie.Need-dwt-length-requires Inv-loop μ-loop
+dwt-length-requires c κs = omega (arith, sums c, c .before .before .before .pre .taps)
 
 add-details : tie.Need-add-details Inv-loop μ-loop
-add-details c = omega (arith, sums c, c .before .before .before .pre .taps .most)
+add-details c = let t = c .before in omega (arith, sums t, c .dwt-length .ensures, t .before .before .before .pre .taps .most)
 
 add-k : tie.Need-add-k Inv-loop μ-loop
 add-k c = search needs
@@ -55,13 +51,14 @@ loop-less c = search needs
 
 loop-again : tie.Need-loop-again Inv-loop μ-loop
 loop-again c =
-    let l = c .before .before in
+    let t = c .before in
+    let l = t .before .before in
     let a = l .before .args in
     let i = l .loop .inv in
     let k = l .loop .k in
-    let q = one-line (a .n) (a .f) k (i .3) in (
-      omega (arith, c .before .loop-test .taken),
-      short-next (a .n) (a .f) k (i .1) (omega (arith, i .3, leb-true (a .f) (l .loop .line) (c .if1 .taken))),
+    let q = c .dwt-length .ensures ∙ one-line (a .n) (a .f) k (i .3) in (
+      omega (arith, t .before .loop-test .taken),
+      short-next (a .n) (a .f) k (i .1) (omega (arith, i .3, leb-true (a .f) (l .loop .line) (t .if1 .taken))),
       omega (arith, i .2, q, details-next (a .n) (a .f) k),
       q,
     )
@@ -84,8 +81,7 @@ down-spec =
     Inv-loop
     μ-loop
     loop-holds
-    add-line
-    sub-line
+    dwt-length-requires
     add-details
     add-k
     loop-less

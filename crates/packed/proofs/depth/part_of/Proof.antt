@@ -35,14 +35,11 @@ found : (c : tie.After-down2) → let a = c .before .before .args in
     (c .down2 .result .details ≡ levelStart (a .n) (a .f) (a .levels) (a .level)) × (pairs (c .down2 .result .line) (a .f) ≡ levelCount (a .n) (a .f) (a .levels) (a .level)) × (c .down2 .result .line ≤ a .n)
 found c = let s = c .before .before in let a = s .args in level-part (a .n) (a .f) (a .levels) (a .level) (c .down2 .result) (s .pre) (omega (arith, c .before .if1 .left)) (c .down2 .ensures)
 
-add-t9 : tie.Need-add-t9
-add-t9 c = omega (arith, found (c .before) .2, c .before .before .before .pre .split .sound .limit, c .before .before .before .pre .split .sound .taps .most)
-
-sub-t10 : tie.Need-sub-t10
-sub-t10 c = search needs
+dwt-length-requires : tie.Need-dwt-length-requires
+dwt-length-requires c κs = let s = c .before .before .pre .split .sound in record { taps = s .taps; limit = omega (arith, found c .2, s .limit) }
 
 returns-2 : tie.Need-returns-2
-returns-2 c = (found (c .before) .0, found (c .before) .1)
+returns-2 c = let w = found (c .before) in (w .0, c .dwt-length .ensures ∙ w .1)
 
 pub part-of-spec : {M : Type 1} → statement M
-part-of-spec = tie.close (tie.spec most-requires down-requires returns sub-down down-requires-2 add-t9 sub-t10 returns-2)
+part-of-spec = tie.close (tie.spec most-requires down-requires returns sub-down down-requires-2 dwt-length-requires returns-2)

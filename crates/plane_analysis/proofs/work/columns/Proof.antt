@@ -3,15 +3,14 @@ use borrow.Author.Needs.{needs}
 use borrow.Rule.Slice.PartMut.{mid-len, same-len-mid}
 use Prim.Native.Nat.{ℕ, _+_, _-_, _*_, _≤_, _<_}
 use native.Mathlib.Omega.{arith}
-use mathlib.Core.Logic.{inr}
-use mathlib.Core.Path.{_≡_, refl, sym, _∙_}
+use mathlib.Core.Path.{_≡_, refl, sym, ap, _∙_}
 use mathlib.Core.List.{_++_}
 use denote.Ref.{now}
 use lib.ListN.{length, take, drop}
 use lib.Ieee.{binary64}
-use Rattle.bank.specs.Lengths.{pairs, paddedLength}
+use Rattle.bank.specs.Lengths.{pairs, spanned, paddedLength}
+use Rattle.bank.specs.Tested.{sound-pairs}
 use Rattle.analysis.specs.Lines.{band}
-use Rattle.analysis.specs.Tested.{pads, whole}
 use Rattle.tables.specs.Tables.{lineOf, stored}
 use Rattle.tables.specs.Stored.{line-end, one-more, filling-none, filling-next, filling-all}
 use Rattle.plane_analysis.specs.Works.{Columning, Still}
@@ -22,92 +21,75 @@ use Rattle.plane_analysis.proofs.work.columns.Tie as tie
 abbrev Inv-loop : tie.InvT-loop
 Inv-loop low high f border scratch₀ base m height start lo₀ hi₀ b end c₀ scratch lo hi c =
     (c ≤ m) × Still start (start + paddedLength height f) scratch₀ scratch × (length lo ≡ length lo₀) × (length hi ≡ length hi₀)
-    × (lo ≡ stored (λ k. band binary64 low f border (lineOf height (drop base scratch₀) k)) c ++ drop (c * pairs height f) lo₀)
-    × (hi ≡ stored (λ k. band binary64 high f border (lineOf height (drop base scratch₀) k)) c ++ drop (c * pairs height f) hi₀)
+    × (lo ≡ stored (λ k. band binary64 low f border (lineOf height (drop base scratch₀) k)) c ++ drop (c * b) lo₀)
+    × (hi ≡ stored (λ k. band binary64 high f border (lineOf height (drop base scratch₀) k)) c ++ drop (c * b) hi₀)
 
 abbrev μ-loop : tie.MeasureT-loop
 μ-loop low high f border scratch₀ base m height start lo₀ hi₀ b end c₀ scratch lo hi c = m - c
 
 -- a turn's lengths: the line lies before the padded one, that in the scratch, and the column's bands in theirs
-record Turn (f base m h start s lo hi c : ℕ) : Type 0 where
+record Turn (f base m h start s lo hi b span c : ℕ) : Type 0 where
   pub line : base + c * h + h ≤ start
-  pub room : start + paddedLength h f ≤ s
-  pub lows : c * pairs h f + pairs h f ≤ lo
-  pub highs : c * pairs h f + pairs h f ≤ hi
+  pub room : start + span ≤ s
+  pub lows : c * b + b ≤ lo
+  pub highs : c * b + b ≤ hi
 
-turn : (f base m h start s lo hi c : ℕ) → Columning f base m h start s lo hi → c < m → Turn f base m h start s lo hi c
-turn f base m h start s lo hi c a l = record {
+filled : {x p : ℕ} (m b : ℕ) → b ≡ p → x ≡ m * p → x ≡ m * b
+filled m b e q = q ∙ ap (λ (k : ℕ). m * k) (sym e)
+
+turn : (f base m h start s lo hi b span c : ℕ) → Columning f base m h start s lo hi → b ≡ pairs h f → span ≡ spanned b f → c < m → Turn f base m h start s lo hi b span c
+turn f base m h start s lo hi b span c a eb es l = record {
   line = omega (arith, line-end h l, a .before);
-  room = a .room;
-  lows = omega (arith, line-end (pairs h f) l, a .lows);
-  highs = omega (arith, line-end (pairs h f) l, a .highs);
+  room = omega (arith, a .room, eb, es);
+  lows = omega (arith, line-end b l, filled m b eb (a .lows));
+  highs = omega (arith, line-end b l, filled m b eb (a .highs));
 }
 
 lengths : (c : tie.In-loop Inv-loop μ-loop)
-    → let s = c .before .before .before .before .before .before .before in
+    → let e = c .before .before in
+    let d = e .before in
+    let a = d .before .before .before .before .before .before .args in
+    Turn (a .f) (a .base) (a .m) (a .height) (a .start) (length (now (a .scratch))) (length (now (a .lo))) (length (now (a .hi))) (d .dwt-length .result) (e .padded-length .result) (c .before .loop .c)
+lengths c =
+    let e = c .before .before in
+    let d = e .before in
+    let s = d .before .before .before .before .before .before in
     let a = s .args in
-    Turn (a .f) (a .base) (a .m) (a .height) (a .start) (length (now (a .scratch))) (length (now (a .lo))) (length (now (a .hi))) (c .before .loop .c)
-lengths c = let s = c .before .before .before .before .before .before .before in let a = s .args in turn (a .f) (a .base) (a .m) (a .height) (a .start) _ _ _ (c .before .loop .c) (s .pre .1) (c .loop-test .taken)
+    turn (a .f) (a .base) (a .m) (a .height) (a .start) _ _ _ (d .dwt-length .result) (e .padded-length .result) (c .before .loop .c) (s .pre .1) (d .dwt-length .ensures) (e .padded-length .ensures) (c .loop-test .taken)
 
-add-b : tie.Need-add-b Inv-loop μ-loop
-add-b c = let s = c .before .before .before .before .before in omega (arith, s .pre .1 .ready .limit, s .pre .1 .ready .taps .most)
+dwt-length-requires : tie.Need-dwt-length-requires Inv-loop μ-loop
+dwt-length-requires c κs = let r = c .before .before .before .before .before .pre .1 .ready in record { taps = r .taps; limit = r .limit }
 
-sub-b : tie.Need-sub-b Inv-loop μ-loop
-sub-b c = let s = c .before .before .before .before .before in omega (arith, s .pre .1 .ready .taps .two)
-
-mul-end : tie.Need-mul-end Inv-loop μ-loop
-mul-end c = let s = c .before .before .before .before .before in omega (arith, s .pre .1 .ready .limit, s .pre .1 .ready .taps .most)
+padded-length-requires : tie.Need-padded-length-requires Inv-loop μ-loop
+padded-length-requires c κs = let r = c .before .before .before .before .before .before .pre .1 .ready in sound-pairs (record { taps = r .taps; limit = r .limit }) (c .dwt-length .ensures)
 
 add-end : tie.Need-add-end Inv-loop μ-loop
-add-end c = let s = c .before .before .before .before .before in omega (arith, s .pre .1 .ready .limit, s .pre .1 .ready .taps .most)
-
-sub-end : tie.Need-sub-end Inv-loop μ-loop
-sub-end c = let s = c .before .before .before .before .before in omega (arith, s .pre .1 .ready .taps .two)
-
-add-end-2 : tie.Need-add-end-2 Inv-loop μ-loop
-add-end-2 c = let s = c .before .before .before .before .before in omega (arith, s .pre .1 .room)
+add-end c = let d = c .before in omega (arith, d .before .before .before .before .before .before .pre .1 .room, d .dwt-length .ensures, c .padded-length .ensures)
 
 loop-holds : tie.Need-loop-holds Inv-loop μ-loop
 loop-holds c =
-    let a = c .before .before .before .before .before .args in
+    let d = c .before in
+    let a = d .before .before .before .before .before .before .args in
     let x = now (a .scratch) in (
       search needs,
       record { long = refl; front = refl; beyond = refl },
       refl,
       refl,
-      filling-none (λ k. band binary64 (now (a .low)) (a .f) (a .border) (lineOf (a .height) (drop (a .base) x) k)) (pairs (a .height) (a .f)) (now (a .lo)),
-      filling-none (λ k. band binary64 (now (a .high)) (a .f) (a .border) (lineOf (a .height) (drop (a .base) x) k)) (pairs (a .height) (a .f)) (now (a .hi)),
+      filling-none (λ k. band binary64 (now (a .low)) (a .f) (a .border) (lineOf (a .height) (drop (a .base) x) k)) (d .dwt-length .result) (now (a .lo)),
+      filling-none (λ k. band binary64 (now (a .high)) (a .f) (a .border) (lineOf (a .height) (drop (a .base) x) k)) (d .dwt-length .result) (now (a .hi)),
     )
 
-mul-pad-within : tie.Need-mul-pad-within Inv-loop μ-loop
-mul-pad-within c = omega (arith, lengths (c .before) .line, lengths (c .before) .room)
+mul-pad-line-within : tie.Need-mul-pad-line-within Inv-loop μ-loop
+mul-pad-line-within c = omega (arith, lengths (c .before) .line, lengths (c .before) .room)
 
-add-pad-within : tie.Need-add-pad-within Inv-loop μ-loop
-add-pad-within c = omega (arith, lengths (c .before) .line, lengths (c .before) .room)
+add-pad-line-within : tie.Need-add-pad-line-within Inv-loop μ-loop
+add-pad-line-within c = omega (arith, lengths (c .before) .line, lengths (c .before) .room)
 
-sub-pad-within : tie.Need-sub-pad-within Inv-loop μ-loop
-sub-pad-within c = c .before .before .before .before .before .before .before .before .pre .1 .ready .taps .two
-
-mul-pad-within-2 : tie.Need-mul-pad-within-2 Inv-loop μ-loop
-mul-pad-within-2 c = let s = c .before .before .before .before .before .before .before .before in omega (arith, s .pre .1 .ready .limit, s .pre .1 .ready .taps .most)
-
-sub-pad-within-2 : tie.Need-sub-pad-within-2 Inv-loop μ-loop
-sub-pad-within-2 c = let s = c .before .before .before .before .before .before .before .before in omega (arith, s .pre .1 .ready .enough, s .pre .1 .ready .taps .two)
-
-pad-within-requires : tie.Need-pad-within-requires Inv-loop μ-loop
-pad-within-requires c κs =
-    let w = c .before in
-    let l = w .before in
-    let s = l .before .before .before .before .before .before in
-    let a = s .args in
-    let t = lengths w in
-    let e = whole (a .height) (a .f) (s .pre .1 .ready) in
-    record {
-      pads = pads (a .border) (a .height) (a .f) (s .pre .1 .ready);
-      line = omega (arith, t .line, t .room, l .loop .inv .1 .long);
-      room = omega (arith, e, t .room, l .loop .inv .1 .long);
-      apart = inr (t .line);
-    }
+pad-line-within-requires : tie.Need-pad-line-within-requires Inv-loop μ-loop
+pad-line-within-requires c κs =
+    let l = c .before .before in
+    let s = l .before .before .before .before .before .before .before .before in
+    record { ready = s .pre .1 .ready; before = lengths (c .before) .line; room = omega (arith, s .pre .1 .room, l .loop .inv .1 .long) }
 
 mul-from : tie.Need-mul-from Inv-loop μ-loop
 mul-from c = omega (arith, lengths (c .before .before .before .before) .lows)
@@ -125,7 +107,7 @@ part-bands-start : tie.Need-part-bands-start Inv-loop μ-loop
 part-bands-start c = search needs
 
 part-bands-end : tie.Need-part-bands-end Inv-loop μ-loop
-part-bands-end c = omega (arith, lengths (c .before .before .before .before .before) .room, c .before .before .before .before .before .before .loop .inv .1 .long, c .before .before .before .pad-within .kept .1 .0)
+part-bands-end c = omega (arith, lengths (c .before .before .before .before .before) .room, c .before .before .before .before .before .before .loop .inv .1 .long, c .before .before .before .pad-line-within .kept .1 .1 .0)
 
 mul-bands-2 : tie.Need-mul-bands-2 Inv-loop μ-loop
 mul-bands-2 c = omega (arith, lengths (c .before .before .before .before .before .before) .lows)
@@ -155,15 +137,16 @@ bands-requires : tie.Need-bands-requires Inv-loop μ-loop
 bands-requires c κs =
     let p = c .before .before .before .before .before .before in
     let w = p .before .before in
-    let l = w .before in
-    let s = l .before .before .before .before .before .before in
+    let l = w .before in let e = l .before in let d = e .before in
+    let s = d .before .before .before .before .before .before in
     let a = s .args in
     let t = lengths w in
-    let from = l .loop .c * pairs (a .height) (a .f) in
-    let lo = mid-len from (from + pairs (a .height) (a .f)) (l .loop .lo) (omega (arith, t .lows, l .loop .inv .2)) in
-    let hi = mid-len from (from + pairs (a .height) (a .f)) (l .loop .hi) (omega (arith, t .highs, l .loop .inv .3)) in
-    let line = mid-len (a .start) (a .start + (2 * pairs (a .height) (a .f) + a .f - 2)) (p .pad-within .last .1 .0) (omega (arith, t .room, l .loop .inv .1 .long, p .pad-within .kept .1 .0)) in
-    record { lows = s .pre .0 .lows; highs = s .pre .0 .highs; both = hi ∙ sym lo; within = omega (arith, lo, line, s .pre .1 .ready .taps .two) }
+    let B = d .dwt-length .result in
+    let from = l .loop .c * B in
+    let lo = mid-len from (from + B) (l .loop .lo) (omega (arith, t .lows, l .loop .inv .2)) in
+    let hi = mid-len from (from + B) (l .loop .hi) (omega (arith, t .highs, l .loop .inv .3)) in
+    let line = mid-len (a .start) (a .start + e .padded-length .result) (p .pad-line-within .last .1 .1 .0) (omega (arith, t .room, l .loop .inv .1 .long, p .pad-line-within .kept .1 .1 .0)) in
+    record { lows = s .pre .0 .lows; highs = s .pre .0 .highs; both = hi ∙ sym lo; within = omega (arith, lo, line, e .padded-length .ensures, s .pre .1 .ready .taps .two) }
 
 add-c : tie.Need-add-c Inv-loop μ-loop
 add-c c = omega (arith, c .before .before .before .before .before .before .before .before .before .before .before .before .before .loop-test .taken)
@@ -176,32 +159,34 @@ loop-again c =
     let q = c .before .before .before .before in
     let p = c .before .before .before .before .before .before .before .before .before .before .before in
     let w = p .before .before in
-    let l = w .before in
-    let s = l .before .before .before .before .before .before in
+    let l = w .before in let e = l .before in let d = e .before in
+    let s = d .before .before .before .before .before .before in
     let a = s .args in
     let t = lengths w in
     let i = l .loop .inv in
     let k = l .loop .c in
     let x = now (a .scratch) in
-    let B = pairs (a .height) (a .f) in
+    let B = d .dwt-length .result in
+    let eb = d .dwt-length .ensures in
     let from = k * B in
     let end = a .start + paddedLength (a .height) (a .f) in
-    let zs = p .pad-within .last .1 .0 in
+    let zs = p .pad-line-within .last .1 .1 .0 in
     let part = mid-len from (from + B) (l .loop .lo) (omega (arith, t .lows, i .2)) in
-    let lo : length (take (from + B - from) (drop from (l .loop .lo))) ≡ B = omega (arith, part) in (
+    let lo : length (take (from + B - from) (drop from (l .loop .lo))) ≡ pairs (a .height) (a .f) = omega (arith, part, eb) in
+    let span : a .start + e .padded-length .result - a .start ≡ end - a .start = omega (arith, eb, e .padded-length .ensures) in (
       omega (arith, w .loop-test .taken),
-      still-next binary64 (now (a .low)) (a .f) (a .border) (a .base) (a .m) (a .height) (a .start) end k x (l .loop .scratch) zs (w .loop-test .taken) (s .pre .1 .ready .taps .two) (s .pre .1 .ready .enough)
-          refl (s .pre .1 .before) (t .room) (i .1) (p .pad-within .ensures),
+      still-next binary64 (now (a .low)) (a .f) (a .border) (a .base) (a .m) (a .height) (a .start) end k x (l .loop .scratch) zs (w .loop-test .taken)
+          refl (s .pre .1 .before) (s .pre .1 .room) (i .1) (p .pad-line-within .ensures),
       same-len-mid from (from + B - from) (l .loop .lo) (q .bands .last .1 .1 .1 .1 .0) (q .bands .kept .1 .1 .1 .1 .0) ∙ i .2,
       same-len-mid from (from + B - from) (l .loop .hi) (q .bands .last .1 .1 .1 .1 .1 .0) (q .bands .kept .1 .1 .1 .1 .1 .0) ∙ i .3,
-      filling-next (λ k. band binary64 (now (a .low)) (a .f) (a .border) (lineOf (a .height) (drop (a .base) x) k)) B k (from + B) (now (a .lo)) (λ j h. each-band binary64 (now (a .low)) (a .f) (a .border) (a .base) (a .m) (a .height) x (omega (arith, s .pre .1 .before, t .room)) j (omega (arith, h, w .loop-test .taken)))
+      filling-next (λ k. band binary64 (now (a .low)) (a .f) (a .border) (lineOf (a .height) (drop (a .base) x) k)) B k (from + B) (now (a .lo)) (λ j h. each-band binary64 (now (a .low)) (a .f) (a .border) (a .base) (a .m) (a .height) x (omega (arith, s .pre .1 .before, t .room)) j (omega (arith, h, w .loop-test .taken)) ∙ sym eb)
           (omega (arith, t .lows, one-more k B)) refl (i .4)
-          (q .bands .ensures .0 ∙ column-made binary64 (now (a .low)) (a .f) (a .border) (a .base) (a .m) (a .height) (a .start) end k x (l .loop .scratch) zs (w .loop-test .taken) (s .pre .1 .ready .taps .two) (s .pre .1 .ready .enough)
-          refl (s .pre .1 .before) (t .room) (i .1) (p .pad-within .ensures) _ _ refl lo),
-      filling-next (λ k. band binary64 (now (a .high)) (a .f) (a .border) (lineOf (a .height) (drop (a .base) x) k)) B k (from + B) (now (a .hi)) (λ j h. each-band binary64 (now (a .high)) (a .f) (a .border) (a .base) (a .m) (a .height) x (omega (arith, s .pre .1 .before, t .room)) j (omega (arith, h, w .loop-test .taken)))
+          (q .bands .ensures .0 ∙ column-made binary64 (now (a .low)) (a .f) (a .border) (a .base) (a .m) (a .height) (a .start) end k x (l .loop .scratch) zs (w .loop-test .taken)
+          refl (s .pre .1 .before) (s .pre .1 .room) (i .1) (p .pad-line-within .ensures) _ _ span lo),
+      filling-next (λ k. band binary64 (now (a .high)) (a .f) (a .border) (lineOf (a .height) (drop (a .base) x) k)) B k (from + B) (now (a .hi)) (λ j h. each-band binary64 (now (a .high)) (a .f) (a .border) (a .base) (a .m) (a .height) x (omega (arith, s .pre .1 .before, t .room)) j (omega (arith, h, w .loop-test .taken)) ∙ sym eb)
           (omega (arith, t .highs, one-more k B)) refl (i .5)
-          (q .bands .ensures .1 ∙ column-made binary64 (now (a .high)) (a .f) (a .border) (a .base) (a .m) (a .height) (a .start) end k x (l .loop .scratch) zs (w .loop-test .taken) (s .pre .1 .ready .taps .two) (s .pre .1 .ready .enough)
-          refl (s .pre .1 .before) (t .room) (i .1) (p .pad-within .ensures) _ _ refl lo),
+          (q .bands .ensures .1 ∙ column-made binary64 (now (a .high)) (a .f) (a .border) (a .base) (a .m) (a .height) (a .start) end k x (l .loop .scratch) zs (w .loop-test .taken)
+          refl (s .pre .1 .before) (s .pre .1 .room) (i .1) (p .pad-line-within .ensures) _ _ span lo),
     )
 
 same-length : tie.Need-same-length Inv-loop μ-loop
@@ -216,12 +201,13 @@ same-length-3 c = c .before .loop .inv .3
 returns : tie.Need-returns Inv-loop μ-loop
 returns c =
     let l = c .before in
-    let s = l .before .before .before .before .before .before in
+    let d = l .before .before in
+    let s = d .before .before .before .before .before .before in
     let a = s .args in
     let i = l .loop .inv in
     let e : l .loop .c ≡ a .m = omega (arith, i .0, c .loop-test .left) in (
-      filling-all (λ k. band binary64 (now (a .low)) (a .f) (a .border) (lineOf (a .height) (drop (a .base) (now (a .scratch))) k)) (pairs (a .height) (a .f)) (l .loop .c) (a .m) (now (a .lo)) (i .4) e (s .pre .1 .lows),
-      filling-all (λ k. band binary64 (now (a .high)) (a .f) (a .border) (lineOf (a .height) (drop (a .base) (now (a .scratch))) k)) (pairs (a .height) (a .f)) (l .loop .c) (a .m) (now (a .hi)) (i .5) e (s .pre .1 .highs),
+      filling-all (λ k. band binary64 (now (a .low)) (a .f) (a .border) (lineOf (a .height) (drop (a .base) (now (a .scratch))) k)) (d .dwt-length .result) (l .loop .c) (a .m) (now (a .lo)) (i .4) e (filled _ _ (d .dwt-length .ensures) (s .pre .1 .lows)),
+      filling-all (λ k. band binary64 (now (a .high)) (a .f) (a .border) (lineOf (a .height) (drop (a .base) (now (a .scratch))) k)) (d .dwt-length .result) (l .loop .c) (a .m) (now (a .hi)) (i .5) e (filled _ _ (d .dwt-length .ensures) (s .pre .1 .highs)),
       i .1,
     )
 
@@ -231,19 +217,13 @@ columns-spec =
     (tie.spec
     Inv-loop
     μ-loop
-    add-b
-    sub-b
-    mul-end
+    dwt-length-requires
+    padded-length-requires
     add-end
-    sub-end
-    add-end-2
     loop-holds
-    mul-pad-within
-    add-pad-within
-    sub-pad-within
-    mul-pad-within-2
-    sub-pad-within-2
-    pad-within-requires
+    mul-pad-line-within
+    add-pad-line-within
+    pad-line-within-requires
     mul-from
     add-to
     mul-bands

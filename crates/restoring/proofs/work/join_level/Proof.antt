@@ -2,7 +2,8 @@
 use borrow.Author.Needs.{needs}
 use borrow.Author.Tests.{eq-eqb, ne-eqb}
 use Rattle.numbers.specs.Tests.{cond-true, cond-false}
-use Rattle.restoring.specs.Lines.{joinOf, laid}
+use Rattle.numbers.specs.Words.{headed}
+use Rattle.restoring.specs.Lines.{levelJoin}
 use Rattle.restoring.specs.Works.{lineHeld, turnFirst, turnSecond, Joining, Turning}
 use Rattle.restoring.proofs.work.join_level.Statement.{statement}
 use Rattle.restoring.proofs.work.join_level.Tie as tie
@@ -27,16 +28,16 @@ module _ (F : ℕ) (low high deepest detail x y : List Float) (j : ℕ) where
   Turned x′ y′ =
       (x′ ≡ turnFirst binary64 F low high (lineHeld deepest x y j) detail j x) × (y′ ≡ turnSecond binary64 F low high (lineHeld deepest x y j) detail j y)
 
-  into-first : {x′ : List Float} (line : List Float) → j % 2 ≡ 0 → line ≡ lineHeld deepest x y j → x′ ≡ laid (joinOf binary64 F low high line detail) x → Turned x′ y
+  into-first : {x′ : List Float} (line : List Float) → j % 2 ≡ 0 → line ≡ lineHeld deepest x y j → x′ ≡ headed (levelJoin binary64 F low high line detail) x → Turned x′ y
   into-first line e q h = (
-    h ∙ ap (λ (l : List Float). laid (joinOf binary64 F low high l detail) x) q ∙ sym (cond-true (eqb (j % 2) 0) _ _ (eq-eqb (j % 2) 0 e)),
+    h ∙ ap (λ (l : List Float). headed (levelJoin binary64 F low high l detail) x) q ∙ sym (cond-true (eqb (j % 2) 0) _ _ (eq-eqb (j % 2) 0 e)),
     sym (cond-true (eqb (j % 2) 0) _ _ (eq-eqb (j % 2) 0 e)),
   )
 
-  into-second : {y′ : List Float} (line : List Float) → (j % 2 ≡ 0 → ⊥) → line ≡ lineHeld deepest x y j → y′ ≡ laid (joinOf binary64 F low high line detail) y → Turned x y′
+  into-second : {y′ : List Float} (line : List Float) → (j % 2 ≡ 0 → ⊥) → line ≡ lineHeld deepest x y j → y′ ≡ headed (levelJoin binary64 F low high line detail) y → Turned x y′
   into-second line e q h = (
     sym (cond-false (eqb (j % 2) 0) _ _ (ne-eqb (j % 2) 0 e)),
-    h ∙ ap (λ (l : List Float). laid (joinOf binary64 F low high l detail) y) q ∙ sym (cond-false (eqb (j % 2) 0) _ _ (ne-eqb (j % 2) 0 e)),
+    h ∙ ap (λ (l : List Float). headed (levelJoin binary64 F low high l detail) y) q ∙ sym (cond-false (eqb (j % 2) 0) _ _ (ne-eqb (j % 2) 0 e)),
   )
 
   is-deepest : j ≡ 0 → deepest ≡ lineHeld deepest x y j
