@@ -5,6 +5,7 @@ use Rattle.analysis.proofs.analysis_answer.Tie as tie
 use Rattle.analysis.specs.Analyses.{answerOf}
 use borrow.Author.Tests.{eq-eqb, le-ltb, lt-ltb, ne-eqb}
 use mathlib.Core.Path.{_≡_, _∙_, sym}
+use native.Mathlib.Omega.{arith}
 use mathlib.Core.Bool.{false}
 use lib.Dec.{ltb}
 use Rattle.numbers.specs.Words.{longest}
@@ -27,7 +28,7 @@ unfolding answerOf
 returns-3 c = simp (sym (c .before .before .before .bad-taps .ensures) ∙ c .before .before .if1 .left, le-ltb _ _ (c .before .if2 .left), lt-ltb _ _ (c .if3 .taken))
 
 dwt-length-requires : tie.Need-dwt-length-requires
-dwt-length-requires c κs = record { taps = good-taps _ (sym (c .before .before .before .bad-taps .ensures) ∙ c .before .before .if1 .left); limit = c .before .if2 .left }
+dwt-length-requires c κs = record { taps = good-taps _ (sym (c .before .before .before .bad-taps .ensures) ∙ c .before .before .if1 .left); limit = omega (arith, c .before .if2 .left) }
 
 -- the first three tests passed
 tested : (m : tie.After-dwt-length) → let a = m .before .before .before .before .before .args in (badTaps (a .f) ≡ false) × (ltb longest (a .n) ≡ false) × (ltb (a .n) (a .f) ≡ false)
@@ -46,7 +47,7 @@ returns-5 c = let m = c .before .before in let t = tested m in simp (t .0, t .1,
 padded-length-requires : tie.Need-padded-length-requires
 padded-length-requires c κs =
     let m = c .before .before in
-    sound-pairs (record { taps = good-taps _ (tested m .0); limit = m .before .before .if2 .left }) (m .dwt-length .ensures)
+    sound-pairs (record { taps = good-taps _ (tested m .0); limit = omega (arith, m .before .before .if2 .left) }) (m .dwt-length .ensures)
 
 returns-6 : tie.Need-returns-6
 unfolding answerOf
