@@ -1,4 +1,4 @@
-"""The tests of docs/RULES.md, from its text: which number answers a case and what it carries, and how far a done call may write its buffers.
+"""The tests of docs/RULES.md, written out apart from the library: which number answers a case and what it carries, and how far a done call may write its buffers.
 
 An answer is a tuple, the number first. Two numbers are the C interface's own: NO_BORDER, tested before everything else, and DIFFER, told where two bands that passed every test differ."""
 from protocol import (ANALYSE, ANALYSE_LEVELS, ANALYSE_PLANE, ANALYSIS_ANSWER, ANALYSIS_SCRATCH, BACK_ANSWER, BAND_LENGTH, BORDERS, COMPARE_BANDS, COMPARING_ANSWER,
