@@ -1,5 +1,7 @@
-"""The figures that measure.py wrote: a case to what a call costs the Rust and this library."""
+"""The figures that measure.py wrote: a case to what a call costs the Rust and this library. A figure of the Rust that is not there is None."""
 import cases
+
+NONE = '-'
 
 
 def read(path):
@@ -7,8 +9,14 @@ def read(path):
     with open(path) as file:
         for line in file:
             op, border, f, n, rust, ours = line.split()
-            costs[op, border, int(f), int(n)] = float(rust), float(ours)
+            costs[op, border, int(f), int(n)] = None if rust == NONE else float(rust), float(ours)
     return costs
+
+
+def above(pair):
+    """Whether this library takes more than the Rust, if both were measured."""
+    rust, ours = pair
+    return rust is not None and ours > rust
 
 
 def growths(costs, case):

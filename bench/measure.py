@@ -9,6 +9,7 @@ import subprocess
 import sys
 
 import cases
+import figures
 
 LOOP = 2000004
 
@@ -61,23 +62,24 @@ def selftest(bench):
 
 
 def check(bench):
-    compared = 0
-    for case in cases.CASES:
+    compared, of = 0, [case for case in cases.CASES + cases.LONGEST if cases.rust_has(case)]
+    for case in of:
         numbers, differ = map(int, bench.said('check', *case))
         if differ or not numbers:
             stop('%s: %d of %d numbers differ' % (' '.join(map(str, case)), differ, numbers))
         compared += numbers
-    print('%d cases, %d numbers, all equal bit for bit' % (len(cases.CASES), compared))
+    print('%d cases, %d numbers, all equal bit for bit' % (len(of), compared))
 
 
 def write(bench, name, of, figure):
     with open(os.path.join(bench.work, name), 'w') as file:
         for case in of:
-            print(*case, figure('rust', case), figure('ours', case), file=file)
+            print(*case, figure('rust', case) if cases.rust_has(case) else figures.NONE, figure('ours', case), file=file)
 
 
 def count(bench):
     write(bench, 'counts.txt', cases.CASES, bench.call)
+    write(bench, 'longest.txt', cases.LONGEST, bench.call)
 
 
 def time(bench):

@@ -1,5 +1,5 @@
 //! This library: its exports as include/isferghul.h declares them, taps told in each call; and its entries by bank, which crates/banked calls.
-use crate::work::{Calls, Case, LEVELS, Op, Work, repeated};
+use crate::work::{Calls, Case, FARTHEST, LEVELS, Op, Work, repeated};
 
 unsafe extern "C" {
     fn isferghul_analyse(
@@ -76,6 +76,8 @@ pub fn calls(case: Case, w: &mut Work) -> Calls<'static> {
         Op::Synthesis => calls!(isferghul_synthesise(low, f, high, f, a, m, b, m, out, outs)),
         Op::SynthesisByBank => calls_by_bank!(banked_synthesise(border, low, f, high, f, a, m, b, m, out, outs)),
         Op::Convolution => calls!(isferghul_convolve(border, line, samples, out, outs, scratch, scratches, low, f, 0)),
+        Op::LongestLeft => calls!(isferghul_convolve(border, line, samples, out, outs, scratch, scratches, low, f, -FARTHEST)),
+        Op::LongestRight => calls!(isferghul_convolve(border, line, samples, out, outs, scratch, scratches, low, f, FARTHEST)),
         Op::Levels => calls!(isferghul_analyse_levels(border, low, f, high, f, line, samples, LEVELS, packed, packeds, scratch, scratches)),
         Op::Restoring => calls!(isferghul_restore_levels(low, f, high, f, packed, packeds, n, LEVELS, out, outs, second, seconds)),
         Op::PlaneAnalysis => calls!(isferghul_analyse_plane(border, low, f, high, f, line, samples, n, n, a, m, b, m, c, m, d, m, scratch, scratches)),

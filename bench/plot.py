@@ -34,24 +34,24 @@ def colour(ratio):
     return WORSE if ratio > 1 else OURS
 
 
-def name(row):
+def name(group, row):
     """What stands for a row in its group."""
     _, border, f = row
-    return f if border == cases.WRAP else border
+    return border if cases.bordered(group) else f
 
 
 def title(group):
-    op, border, f = group[0]
-    return cases.TITLES[op] if border == cases.WRAP else '%s by %d taps' % (cases.TITLES[op], f)
+    op, _, f = group[0]
+    return '%s by %d taps' % (cases.TITLES[op], f) if cases.bordered(group) else cases.TITLES[op]
 
 
-def line_of(costs, row, y):
+def line_of(costs, group, row, y):
     """The dots of one row, by size; the largest is filled, drawn last and told in words."""
-    sizes = cases.sizes(row[0])
+    sizes = cases.sizes(group)
     ratios = [costs[(*row, n)][1] / costs[(*row, n)][0] for n in sizes]
     growth = figures.growths(costs, (*row, sizes[-2]))[1]
     return [
-        text(LEFT - 16, y + 4, name(row), PALE, anchor='end'),
+        text(LEFT - 16, y + 4, name(group, row), PALE, anchor='end'),
         stroke(across(min(ratios)), y, across(max(ratios)), y, '#b9c9dd', 2),
         *[dot(across(ratio), y, n == sizes[-1], colour(ratio)) for n, ratio in zip(sizes, ratios)],
         text(RATIOS, y + 4, '%.2f' % ratios[-1], colour(ratios[-1]), anchor='end'),
@@ -65,7 +65,7 @@ def lines(costs):
     for group in cases.GROUPS:
         drawn += [text(LEFT - 96, y + 4, title(group), anchor='end')]
         for row in group:
-            drawn += line_of(costs, row, y)
+            drawn += line_of(costs, group, row, y)
             y += HIGH
         y += GAP
     return drawn, y - GAP
@@ -83,7 +83,7 @@ def heads():
     return [
         text(24, 30, 'Executed x86-64 instructions: ours for each one of the Rust', size=17, weight='bold'),
         text(24, 54, 'Left of the line at 1.0 we take fewer than the Rust, right of it (red) more.', PALE),
-        text(24, 74, 'The border is Wrap where none is named.', PALE),
+        text(24, 74, 'The border is Wrap where none is named; rows by border begin at 8 samples.', PALE),
         dot(576, 50, True, OURS),
         text(586, 54, '16,384 samples, or 4,096 x 4,096', PALE),
         dot(576, 70, False, OURS),

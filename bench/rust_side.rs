@@ -1,8 +1,19 @@
 //! The Rust: its public calls with the bank in hand, lent what they take and allocating what they allocate.
-use crate::work::{Call, Case, LEVELS, Op, Work, half};
+use crate::work::{Call, Case, FARTHEST, LEVELS, Op, Work, half};
 use oracle::{BorderMode, FilterBank2D, MultiDwt, MultiLevelDwtRef, oracle as rust};
 
-const BORDERS: [BorderMode; 5] = [BorderMode::Clamp, BorderMode::Wrap, BorderMode::Reflect, BorderMode::Zeros, BorderMode::Reflect101];
+/// In the order of their numbers. It has no mirror: for each stands the border that gives the same numbers while a pad is short.
+const BORDERS: [BorderMode; 7] = [
+    BorderMode::Clamp,
+    BorderMode::Wrap,
+    BorderMode::Reflect,
+    BorderMode::Zeros,
+    BorderMode::Reflect101,
+    // Mirror, up to n places past the line
+    BorderMode::Reflect,
+    // Mirror101, up to n - 2 places past it
+    BorderMode::Reflect101,
+];
 const DONE: &str = "the Rust is done";
 
 /// What calls over levels return; it is dropped when the next call is made.
@@ -55,6 +66,14 @@ pub fn call<'a>(case: Case, w: &'a mut Work, returned: &'a mut Returned) -> Call
         Op::Convolution => {
             let convolve = oracle::made::convolution(border);
             Box::new(move || convolve(line, out, scratch, low, 0).expect(DONE))
+        }
+        Op::LongestLeft => {
+            let convolve = oracle::made::convolution(border);
+            Box::new(move || convolve(line, out, scratch, low, -FARTHEST as isize).expect(DONE))
+        }
+        Op::LongestRight => {
+            let convolve = oracle::made::convolution(border);
+            Box::new(move || convolve(line, out, scratch, low, FARTHEST as isize).expect(DONE))
         }
         Op::Levels => Box::new(move || {
             returned.made = None;

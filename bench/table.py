@@ -17,7 +17,7 @@ def row(costs, case):
     rust, ours = costs[case]
     each = ['%.2f' % (cost / cases.samples(op, n)) for cost in (rust, ours)]
     growth = ['%.2f' % times for times in figures.growths(costs, case)] or ['', '']
-    return ROW % (cases.TITLES[op], border if cases.border_read(op) else '', f, size(op, n), *each, '%.3f' % (ours / rust), *growth, 'above' if ours > rust else '')
+    return ROW % (cases.TITLES[op], border if cases.border_read(op) else '', f, size(op, n), *each, '%.3f' % (ours / rust), *growth, 'above' if figures.above(costs[case]) else '')
 
 
 def table(costs, unit):

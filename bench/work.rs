@@ -7,6 +7,9 @@ pub enum Op {
     Synthesis,
     SynthesisByBank,
     Convolution,
+    /// A convolution with the longest pad on one side, and none on the other.
+    LongestLeft,
+    LongestRight,
     Levels,
     Restoring,
     PlaneAnalysis,
@@ -14,12 +17,14 @@ pub enum Op {
 }
 
 /// The names that measure.py uses.
-pub const OPS: [(&str, Op); 9] = [
+pub const OPS: [(&str, Op); 11] = [
     ("analysis", Op::Analysis),
     ("analysis-by-bank", Op::AnalysisByBank),
     ("synthesis", Op::Synthesis),
     ("synthesis-by-bank", Op::SynthesisByBank),
     ("convolution", Op::Convolution),
+    ("longest-left", Op::LongestLeft),
+    ("longest-right", Op::LongestRight),
     ("levels", Op::Levels),
     ("restoring", Op::Restoring),
     ("plane-analysis", Op::PlaneAnalysis),
@@ -27,9 +32,12 @@ pub const OPS: [(&str, Op); 9] = [
 ];
 
 /// In the order of their numbers.
-pub const BORDERS: [&str; 5] = ["Clamp", "Wrap", "Reflect", "Zeros", "Reflect101"];
+pub const BORDERS: [&str; 7] = ["Clamp", "Wrap", "Reflect", "Zeros", "Reflect101", "Mirror", "Mirror101"];
 
 pub const LEVELS: usize = 5;
+
+/// The centre that is farthest from 0, of 64 taps.
+pub const FARTHEST: i64 = 63;
 
 #[derive(Clone, Copy)]
 pub struct Case {
@@ -132,7 +140,8 @@ impl Work {
         match op {
             Op::Analysis | Op::AnalysisByBank => (w.line, w.bands, w.scratch) = (list(n), vec![held(m); 2], held(padded(n, f))),
             Op::Synthesis | Op::SynthesisByBank => (w.bands, w.out) = (vec![list(m), list(m)], held(n)),
-            Op::Convolution => (w.line, w.out, w.scratch) = (list(n), held(n), held(n + f)),
+            Op::Convolution | Op::LongestRight => (w.line, w.out, w.scratch) = (list(n), held(n), held(n + f)),
+            Op::LongestLeft => (w.line, w.out, w.scratch) = (list(n), held(n), held(n + f / 2 - 1 + FARTHEST as usize)),
             Op::Levels => (w.line, w.packed, w.scratch) = (list(n), held(packed(n, f)), held(padded(n, f) + 2 * m)),
             Op::Restoring => (w.packed, w.out, w.second) = (list(packed(n, f)), held(n), held(n)),
             Op::PlaneAnalysis => (w.line, w.bands, w.scratch) = (list(n * n), vec![held(m * m); 4], held(plane_scratch(n, f))),

@@ -29,13 +29,16 @@
 extern "C" {
 #endif
 
-/* What stands left and right of a line. */
+/* What stands left and right of a line. Reflect repeats the reversed line, so past one length it is no mirror; the two mirrors
+   turn at each end, which Mirror repeats and Mirror101 does not, however far. */
 enum isferghul_border {
     ISFERGHUL_CLAMP = 0,
     ISFERGHUL_WRAP = 1,
     ISFERGHUL_REFLECT = 2,
     ISFERGHUL_ZEROS = 3,
-    ISFERGHUL_REFLECT101 = 4
+    ISFERGHUL_REFLECT101 = 4,
+    ISFERGHUL_MIRROR = 5,
+    ISFERGHUL_MIRROR101 = 6
 };
 
 /* How long each band of n samples by f taps is: carried[0] on 0. Refuses by 12, 11, 1. */

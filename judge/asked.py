@@ -1,16 +1,19 @@
-"""What the list of the rules' answers asks: P1 to P12, the ends of the domain, every refusal and pairs of them, special floats, dirty buffers.
+"""What the list of the rules' answers asks: P1 to P13, the ends of the domain, every refusal and pairs of them, special floats, dirty buffers.
 
 `ASKED` fills with (name, case, answer, what every lent list then holds), answered by judge/rules.py and judge/sums.py; the rules' own numbers, and
 some worked by hand, are asserted here. A list that is lent begins as sevens, or eights, unless it says otherwise. Levels and planes ask in files of their own."""
 import rules
 import sums
 from protocol import (ANALYSE, ANALYSE_LEVELS, ANALYSE_PLANE, ANALYSIS_ANSWER, ANALYSIS_SCRATCH, BACK_ANSWER, BAND_LENGTH, bits_of, BORDERS, Case, CONVOLUTION_ANSWER,
-                      CONVOLUTION_SCRATCH, CONVOLVE, LINE_LENGTH, MIRROR, one_nan, OPEN, RESTORE_LEVELS, SYNTHESIS_ANSWER, SYNTHESISE,
+                      CONVOLUTION_SCRATCH, CONVOLVE, LINE_LENGTH, MIRROR as MIRROR_RULE, MIRRORS, one_nan, OPEN, RESTORE_LEVELS, SYNTHESIS_ANSWER, SYNTHESISE,
                       SYNTHESISE_PLANE, THERE_AND_BACK)
 from rules import LIMIT
 
 INF, NAN, HUGE = float('inf'), float('nan'), 2**64 - 1
-CLAMP, WRAP, REFLECT, ZEROS, REFLECT101 = EVERY = range(len(BORDERS))
+CLAMP, WRAP, REFLECT, ZEROS, REFLECT101, MIRROR, MIRROR101 = EVERY = range(len(BORDERS))
+ANY_REACH = (WRAP, REFLECT, CLAMP, ZEROS, *MIRRORS)
+# the first number that is no border
+NONE = len(BORDERS)
 ASKED = []
 
 
@@ -83,11 +86,11 @@ def lengths():
 # --- tap lists: the mirror rule, and lists that make no bank
 
 def lists_of_taps():
-    assert ask("P8's taps by the mirror rule", MIRROR, (), LOW8, sevens(4))[1] == [[-1.0, -2.0, 6.0, -3.0]]
-    ask('mirror rule: zeros, infinity and NaN', MIRROR, (), [0.0, -0.0, INF, NAN], sevens(4))
-    ask('mirror rule: 64 taps', MIRROR, (), [2.0] + ones(62) + [3.0], sevens(64))
+    assert ask("P8's taps by the mirror rule", MIRROR_RULE, (), LOW8, sevens(4))[1] == [[-1.0, -2.0, 6.0, -3.0]]
+    ask('mirror rule: zeros, infinity and NaN', MIRROR_RULE, (), [0.0, -0.0, INF, NAN], sevens(4))
+    ask('mirror rule: 64 taps', MIRROR_RULE, (), [2.0] + ones(62) + [3.0], sevens(64))
     for f, h in ((3, 3), (0, 0), (66, 66), (4, 2), (2, 4)):
-        assert ask('mirror rule: lists of %d and %d' % (f, h), MIRROR, (), ones(f), sevens(h))[0] == (12,)
+        assert ask('mirror rule: lists of %d and %d' % (f, h), MIRROR_RULE, (), ones(f), sevens(h))[0] == (12,)
     for f, h in ((4, 2), (2, 4), (3, 3), (0, 0), (66, 66)):
         for name, op, scalars, lists in (
                 ('analysis', ANALYSE, (WRAP,), (ones(70), sevens(1), sevens(1), sevens(1))), ('synthesis', SYNTHESISE, (), (ones(3), ones(3), sevens(4))),
@@ -114,13 +117,30 @@ def borders():
     assert pads('P5: Wrap, four each side', WRAP, TEN, 4, 4, 7) == [30, 10, 20, 30, *TEN, 10, 20, 30, 10]
     assert pads('P6: Reflect, four each side', REFLECT, TEN, 4, 4, 7) == [10, 30, 20, 10, *TEN, 30, 20, 10, 30]
     assert pads('P7: Reflect101, one each side', REFLECT101, TEN, 1, 1, 13) == [20, *TEN, 20]
-    for border in (WRAP, REFLECT, CLAMP, ZEROS):
+    for border in ANY_REACH:
         pads('seven and eight, ' + BORDERS[border], border, TEN, 7, 8, 0)
     pads('none and five, Wrap', WRAP, TEN, 0, 5, 10)
     pads('five and none, Reflect', REFLECT, TEN, 5, 0, 10)
     for border in EVERY:
         pads('one sample -0, ' + BORDERS[border], border, [-0.0], 3, 2, 1)
+    assert pads('P13: Mirror, four each side', MIRROR, TEN, 4, 4, 7) == [30, 30, 20, 10, *TEN, 30, 20, 10, 10]
+    assert pads('P13: Mirror101, four each side', MIRROR101, TEN, 4, 4, 7) == [10, 20, 30, 20, *TEN, 20, 10, 20, 30]
     ask('no pads, Reflect101', ANALYSE, (REFLECT101,), *SUMS, counted(4), sevens(2), sevens(2), sevens(7))
+
+
+def mirrors():
+    for border, first, last in ((REFLECT, 10, 30), (MIRROR, 30, 10)):
+        assert pads('one place past one length on the left, ' + BORDERS[border], border, TEN, 4, 0, 0) == [first, 30, 20, 10, *TEN]
+        assert pads('one place past one length on the right, ' + BORDERS[border], border, TEN, 0, 4, 0) == [*TEN, 30, 20, 10, last]
+        assert convolved('kernel 1 0 0 0 0 about -2, ' + BORDERS[border], border, TEN, [1.0] + [0.0] * 4, -2, 8)[1][0] == [first, 30, 20]
+    # ten lengths each side, from the place in its period at which the padded line begins
+    for border, n, period in ((MIRROR, 3, [10, 20, 30, 30, 20, 10]), (MIRROR, 2, [10, 20, 20, 10]), (MIRROR, 1, [10]),
+                              (MIRROR101, 3, [30, 20, 10, 20]), (MIRROR101, 2, [10, 20]), (MIRROR101, 1, [10])):
+        assert pads('%d samples, ten lengths each side, %s' % (n, BORDERS[border]), border, TEN[:n], 10 * n, 10 * n, 1) == (period * 21 * n)[:21 * n]
+    assert pads('Mirror101 as far as Reflect101 reaches', MIRROR101, counted(4), 2, 2, 1) == [3, 2, 1, 2, 3, 4, 3, 2]
+    assert pads("Mirror101 a place past Reflect101's reach", MIRROR101, counted(4), 3, 3, 1) == [4, 3, 2, 1, 2, 3, 4, 3, 2, 1]
+    for border, shown in ((MIRROR, 'inf inf nan -0.0 -0.0 nan inf inf nan -0.0 -0.0'), (MIRROR101, '-0.0 nan inf nan -0.0 nan inf nan -0.0 nan inf')):
+        assert [repr(x) for x in pads('-0, NaN and infinity, ' + BORDERS[border], border, [-0.0, NAN, INF], 4, 4, 1)] == shown.split()
 
 
 # --- one line
@@ -181,7 +201,7 @@ def kernels():
     three('the first centre, Wrap', WRAP, -2)
     for border in EVERY:
         convolved('one sample, ' + BORDERS[border], border, [5.0], [1.0, 10.0, 100.0], 0, 5)
-    for border in (WRAP, REFLECT, CLAMP, ZEROS):
+    for border in ANY_REACH:
         convolved('four each side, ' + BORDERS[border], border, TEN, [1.0] + [0.0] * 6 + [0.5], -1, 12)
     for n, scratch in ((2, 4), (5, 7), (7, 9), (8, 11)):
         convolved('%d samples' % n, CLAMP, counted(n), [1.0, 10.0], 0, scratch)
@@ -224,6 +244,10 @@ def refused(name, answer, op, scalars, *lists):
     assert ask(name, op, scalars, *lists)[0] == answer, name
 
 
+# the last borders and the first number that is none, where all else is wrong too
+NUMBERS = (*((BORDERS[border] + ', all wrong', border, (12,)) for border in MIRRORS), ('no border of that number, all wrong', NONE, (26, NONE)))
+
+
 def refused_lines():
     for name, answer, f, n, a, d, s in (
             ('no taps, no line', (12,), 0, 0, 0, 0, 0), ('3 taps, 2 samples, all wrong', (12,), 3, 2, 1, 3, 1), ('66 taps, all wrong', (12,), 66, 2, 1, 3, 1),
@@ -232,7 +256,8 @@ def refused_lines():
             ('scratch too short', (5, 8, 7), 4, 4, 3, 3, 7), ('no scratch', (5, 2, 0), 2, 2, 1, 1, 0)):
         refused(name, answer, ANALYSE, (WRAP,), *taps(f), ones(n), sevens(a), sevens(d), sevens(s))
     refused('lists that differ, no bands', (12,), ANALYSE, (WRAP,), ones(4), ones(2), ones(2), [], [], [])
-    refused('no border of that number, all wrong', (26, 5), ANALYSE, (5,), *taps(3), ones(2), sevens(1), sevens(3), sevens(1))
+    for name, border, answer in NUMBERS:
+        refused(name, answer, ANALYSE, (border,), *taps(3), ones(2), sevens(1), sevens(3), sevens(1))
     for f, n, a, d, s, answer in ((3, LIMIT + 1, 0, 0, 0, (12,)), (4, LIMIT + 1, 0, 0, 0, (11,)), (2, LIMIT, LIMIT // 2, LIMIT // 2, LIMIT - 1, (5, LIMIT, LIMIT - 1)),
                                   (2, LIMIT, LIMIT // 2, LIMIT // 2, LIMIT, (0,))):
         every((ANALYSIS_ANSWER,), (answer,), f, n, a, d, s)
@@ -256,13 +281,19 @@ def refused_kernels():
             ('centre -3 of 3, Reflect101 too far', (8, 3, 3), 4, 4, 8, 3, -3, REFLECT101), ('centre 1 of 1', (8, 1, 1), 4, 4, 5, 1, 1, ZEROS), ('Reflect101 of 2 samples, 1 tap', (13,), 2, 2, 3, 1, 0, REFLECT101),
             ('Reflect101 of 2 samples, 1 tap, no scratch', (5, 3, 0), 2, 2, 0, 1, 0, REFLECT101), ('Reflect101 of 4 samples, 3 behind', (13,), 4, 4, 7, 3, 1, REFLECT101),
             ('Reflect101 of 4 samples, 3 in front', (13,), 4, 4, 7, 3, -2, REFLECT101), ('Reflect101 of 3 samples, 1 behind', (0,), 3, 3, 4, 1, 0, REFLECT101),
-            ('no border of that number, all wrong', (26, HUGE), 0, 1, 0, 65, 2**31, HUGE)):
+            *((BORDERS[border] + ' of 2 samples, 1 tap', (0,), 2, 2, 3, 1, 0, border) for border in MIRRORS),
+            *((BORDERS[border] + ' of 4 samples, 3 behind', (0,), 4, 4, 7, 3, 1, border) for border in MIRRORS),
+            *((BORDERS[border] + ' of 4 samples, 3 in front', (0,), 4, 4, 7, 3, -2, border) for border in MIRRORS),
+            *((BORDERS[border] + ', all wrong', (11,), 0, 1, 0, 65, 2**31, border) for border in MIRRORS),
+            ('no border of that number, all wrong', (26, NONE), 0, 1, 0, 65, 2**31, NONE), ('no border of that number, all wrong', (26, HUGE), 0, 1, 0, 65, 2**31, HUGE)):
         refused(name, answer, CONVOLVE, (border, c), ones(n), sevens(o), sevens(s), ones(f))
     for n, o, f, s, answer in ((LIMIT + 1, 0, 3, 0, (11,)), (LIMIT, LIMIT, 0, 0, (0,)), (LIMIT, LIMIT, 1, LIMIT, (5, LIMIT + 1, LIMIT))):
         every((CONVOLUTION_ANSWER,), (answer,), WRAP, n, o, f, 0, s)
+    for border, answer in ((REFLECT101, (13,)), (MIRROR, (0,)), (MIRROR101, (0,))):
+        every((CONVOLUTION_ANSWER,), (answer,), border, 2, 2, 1, 0, 3)
 
 
-# --- there and back: whether the premises of exact restoring hold, and whether S times the line comes back
+# --- there and back: whether the premises of exact restoring hold, whether S times the line comes back, and what does
 
 def whole(x):
     assert x == int(x)
@@ -279,23 +310,22 @@ def returned(name, border, bank, line, beyond=0):
     f, n = len(bank[0]), len(line)
     m = rules.band(n, f)
     answer, left = ask(name, THERE_AND_BACK, (border,), *bank, line, sevens(m), sevens(m), sevens(rules.padded_length(n, f) + beyond), sevens(rules.joined_length(m, f)))
-    S = sum(whole(t)**2 for t in bank[0])
+    S, out = sum(whole(t)**2 for t in bank[0]), [whole(x) for x in left[-1]]
     assert answer == (0,)
-    return premises(*bank, line), [whole(x) for x in left[-1]] == [S * whole(sums.sample(border, line, i)) for i in range(n + n % 2)]
+    return premises(*bank, line), out == [S * whole(sums.sample(border, line, i)) for i in range(n + n % 2)], out
 
 
 def there_and_back():
     most, low6 = 3895847428521, [6.0, 12.0, 3.0, -4.0, 6.0, -3.0]
     assert 2 * most * 34**2 <= 2**53 < 2 * (most + 1) * 34**2 and sum(abs(t) for t in low6) == 34
     for border in EVERY:
-        for name, low, line, beyond in (('P8', LOW8, [10.0, 20.0, 30.0, 40.0], 1), ('five samples', LOW8, [5.0, -0.0, 3.0, -4.0, 9.0], 0),
-                                        ('six taps, the largest A', low6, [float(most * x) for x in (1, -1, 1, 1, -1, -1, 0)], 0)):
-            assert returned('there and back, %s, %s' % (name, BORDERS[border]), border, mirrored(low), line, beyond) == (True, True)
-    assert returned('there and back, taps 1 1, the largest A', CLAMP, SUMS, [2.0**50, -2.0**50, 1.0]) == (True, True)
+        for name, low, line, beyond in (('P8', LOW8, [10.0, 20.0, 30.0, 40.0], 1), ('six taps, the largest A', low6, [float(most * x) for x in (1, -1, 1, 1, -1, -1, 0)], 0)):
+            assert returned('there and back, %s, %s' % (name, BORDERS[border]), border, mirrored(low), line, beyond)[:2] == (True, True)
+    assert returned('there and back, taps 1 1, the largest A', CLAMP, SUMS, [2.0**50, -2.0**50, 1.0])[:2] == (True, True)
     for name, bank, line in (("P8's bank past the bound", mirrored(LOW8), [-134482488872868.0, 134482488872868.0, 134482488872868.0, -134482488872867.0]),
                              ("P8's taps, the mirror's sign dropped", (LOW8, LOW8[::-1]), [10.0, 20.0, 30.0, 40.0]),
                              ('taps 3 6 2 1, not zero at distance two', mirrored([3.0, 6.0, 2.0, 1.0]), [10.0, 20.0, 30.0, 40.0])):
-        assert returned('there and back, ' + name, WRAP, bank, line) == (False, False)
+        assert returned('there and back, ' + name, WRAP, bank, line)[:2] == (False, False)
     for name, answer, f, n, a, d, s, o in (
             ('3 taps, all wrong', (12,), 3, 2, 1, 3, 1, 1), ('4 taps, 3 samples, all wrong', (1, 3, 4), 4, 3, 1, 2, 1, 1), ('approximations, details, scratch and output wrong', (2, 2), 4, 4, 2, 4, 1, 1),
             ('details, scratch and output wrong', (2, 4), 4, 4, 3, 4, 1, 1), ('scratch and output wrong', (5, 8, 7), 4, 4, 3, 3, 7, 1), ('output too short', (4, 3, 4), 4, 4, 3, 3, 8, 3),
@@ -303,3 +333,14 @@ def there_and_back():
         refused('there and back, ' + name, answer, THERE_AND_BACK, (WRAP,), *taps(f), ones(n), sevens(a), sevens(d), sevens(s), sevens(o))
     for f, n, m, s, o, answer in ((66, LIMIT + 1, 0, 0, 0, (12,)), (4, LIMIT + 1, 0, 0, 0, (11,)), (64, LIMIT, 524319, 1048700, LIMIT - 1, (4, LIMIT - 1, LIMIT)), (64, LIMIT, 524319, 1048700, LIMIT, (0,))):
         every((BACK_ANSWER,), (answer,), f, n, m, m, s, o)
+
+
+# By hand, S being 50: behind 5 0 3 -4 9 stands 9 under Clamp and Reflect, 5 under Wrap, zero under Zeros, -4 under Reflect101. No pad is as long as the line, so the mirrors give what those two give.
+BEHIND = {CLAMP: ('', 450), WRAP: ('', 250), REFLECT: ('', 450), ZEROS: ('', 0), REFLECT101: ('', -200), MIRROR: (', as under Reflect', 450), MIRROR101: (', as under Reflect101', -200)}
+
+
+def odd_lines():
+    assert BEHIND.keys() == set(EVERY)
+    for border, (alike, last) in BEHIND.items():
+        name = 'there and back, five samples, %s%s' % (BORDERS[border], alike)
+        assert returned(name, border, mirrored(LOW8), [5.0, -0.0, 3.0, -4.0, 9.0]) == (True, True, [250, 0, 150, -200, 450, last])

@@ -1,7 +1,7 @@
 """What the list of the rules' answers asks about several levels."""
 import rules
 import sums
-from asked import (APART, ask, CLAMP, counted, eights, EVERY, every, FOURS, HALVES, HUGE, INF, LOW8, mirrored, NAN, ones, PARTED, REFLECT, REFLECT101, refused, sevens, SIXED, SUMS,
+from asked import (APART, ask, CLAMP, counted, eights, EVERY, every, FOURS, HALVES, HUGE, INF, LOW8, mirrored, NAN, NUMBERS, ones, PARTED, REFLECT, REFLECT101, refused, sevens, SIXED, SUMS,
                    taps, TENS, times, WRAP, ZEROS)
 from protocol import (ANALYSE_LEVELS, BORDERS, HANDING_ANSWER, LEVEL_DETAILS, LEVEL_PART, LEVELS_ANSWER, LEVELS_SCRATCH, MOST_LEVELS, PACKED_LENGTH, READ_PLACE, RESTORE_LEVELS,
                       RESTORED_LINE, RESTORING_ANSWER, RESTORING_LENGTH)
@@ -164,7 +164,8 @@ def refusals():
             ("scratch of one line's analysis", (5, 12, 6), 2, 5, 1, 6, 6), ('no scratch, levels 0', (5, 4, 0), 2, 2, 0, 2, 0)):
         refused(name, answer, ANALYSE_LEVELS, (WRAP, levels), *taps(f), ones(n), sevens(p), sevens(s))
     refused('lists that differ, nothing lent', (12,), ANALYSE_LEVELS, (WRAP, 2), ones(4), ones(2), ones(2), [], [])
-    refused('no border of that number, all wrong', (26, 5), ANALYSE_LEVELS, (5, 2), *taps(3), ones(2), sevens(1), sevens(1))
+    for name, border, answer in NUMBERS:
+        refused(name, answer, ANALYSE_LEVELS, (border, 2), *taps(3), ones(2), sevens(1), sevens(1))
     for n, f, levels, p, s, answer in ((LIMIT + 1, 3, 2, 0, 0, (12,)), (LIMIT + 1, 4, 2, 0, 0, (11,)), (LIMIT, 2, 21, LIMIT, 2 * LIMIT, (9,)), (LIMIT, 2, 20, LIMIT - 1, 2 * LIMIT - 1, (10, LIMIT, LIMIT - 1)),
                                        (LIMIT, 2, 20, LIMIT, 2 * LIMIT - 1, (5, 2 * LIMIT, 2 * LIMIT - 1)), (LIMIT, 2, 20, LIMIT, 2 * LIMIT, (0,))):
         every((LEVELS_ANSWER,), (answer,), n, f, levels, p, s)

@@ -1,6 +1,6 @@
 """What the list of the rules' answers asks about planes and about comparing two bands."""
 import rules
-from asked import (APART, ask, CLAMP, counted, EVERY, every, FOURS, HALVES, HUGE, INF, mirrored, NAN, ones, PARTED, REFLECT, REFLECT101, refused, sevens, SIXED, SUMS, taps, TENS, times,
+from asked import (APART, ask, CLAMP, counted, EVERY, every, FOURS, HALVES, HUGE, INF, mirrored, NAN, NUMBERS, ones, PARTED, REFLECT, REFLECT101, refused, sevens, SIXED, SUMS, taps, TENS, times,
                    WRAP, ZEROS)
 from protocol import ANALYSE_PLANE, BORDERS, COMPARE_BANDS, COMPARING_ANSWER, PLANE_ANALYSIS_ANSWER, PLANE_SIZES, PLANE_SYNTHESIS_ANSWER, SYNTHESISE_PLANE
 from rules import DIFFER, LIMIT, MOST_OF_PLANE
@@ -113,7 +113,8 @@ def refused_analyses():
             ('no band right', (2, 3), 2, 4, 4, 16, 36, 3, 5, 6, 0), ('LH a place too long, HL and HH wrong', (2, 5), 2, 4, 4, 16, 36, 4, 5, 6, 0), ('HL two places too long, HH wrong', (2, 6), 2, 4, 4, 16, 36, 4, 4, 6, 0),
             ('no HH', (2, 0), 2, 4, 4, 16, 36, 4, 4, 4, 0)):
         refused(name, answer, ANALYSE_PLANE, (WRAP, w, h), *taps(f), ones(p), *[sevens(length) for length in lengths], sevens(s))
-    refused('no border of that number, all wrong', (26, 5), ANALYSE_PLANE, (5, 0, 0), *taps(3), ones(3), *[sevens(1)] * 4, sevens(1))
+    for name, border, answer in NUMBERS:
+        refused(name, answer, ANALYSE_PLANE, (border, 0, 0), *taps(3), ones(3), *[sevens(1)] * 4, sevens(1))
     limits(PLANE_ANALYSIS_ANSWER)
 
 

@@ -80,10 +80,10 @@ def batches(cases):
 
 
 class Sides:
-    """The two programs, over files in one folder."""
+    """The programs, each by its name, over files in one folder."""
 
-    def __init__(self, work, driver, host):
-        self.work, self.commands = work, {'rust': shlex.split(driver), 'ours': shlex.split(host)}
+    def __init__(self, work, **commands):
+        self.work, self.commands = work, {name: shlex.split(command) for name, command in commands.items()}
 
     def path(self, name):
         return os.path.join(self.work, 'batch.' + name)
@@ -98,7 +98,7 @@ class Sides:
             ended = [(name, process.wait()) for name, process in running]
             for name, status in ended:
                 if status != 0:
-                    sys.exit('compare.py: the side `%s` ended with status %d' % (name, status))
+                    sys.exit('judge: the side `%s` ended with status %d' % (name, status))
             return [self.written(name) for name in self.commands]
         finally:
             for name in ('cases', *self.commands):
@@ -197,7 +197,7 @@ def main():
         parted = rows.parted_from(file.read())
     if parted:
         sys.exit('\n'.join(parted))
-    sides, tally = Sides(told.work, told.driver, told.host), Tally()
+    sides, tally = Sides(told.work, rust=told.driver, ours=told.host), Tally()
     for name, count, cases in kinds.kinds(told.seed, told.cases):
         run_kind(sides, tally, name, count, cases)
     tally.show()

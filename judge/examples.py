@@ -1,4 +1,4 @@
-"""P1 to P12 (RULES, Examples) as questions, out of crates/worked/specs/Examples.antt, where they are proved.
+"""P1 to P13 (RULES, Examples) as questions, out of crates/worked/specs/Examples.antt, where they are proved.
 
 It knows none of the rules: questions and answers are that list's. What an example does not tell, such as a scratch, is lent long enough and left open."""
 import pathlib
@@ -46,7 +46,7 @@ def examples():
     tokens = re.findall(r'[()]|[^\s()]+', LIST.read_text(encoding='utf-8').split('\nexamples b =\n')[1])
     found = items(tokens)
     assert not tokens and all(example[0] == 'P' and len(example) == 4 for example in found)
-    assert sorted({example[1] for example in found}) == list(range(1, 13)), 'P1 to P12'
+    assert sorted({example[1] for example in found}) == list(range(1, 14)), 'P1 to P13'
     return [(number, asked, given) for _, number, asked, given in found]
 
 

@@ -30,7 +30,7 @@ def answered(questions):
 
 def of_rules():
     """Every question of the rules, theme by theme."""
-    for theme in (asked.lengths, asked.lists_of_taps, asked.borders, asked.lines, asked.kernels, asked.roundings, asked.specials, asked.refused_lines, asked.refused_kernels, asked.there_and_back,
+    for theme in (asked.lengths, asked.lists_of_taps, asked.borders, asked.mirrors, asked.lines, asked.kernels, asked.roundings, asked.specials, asked.refused_lines, asked.refused_kernels, asked.there_and_back, asked.odd_lines,
                   asked_levels.lengths, asked_levels.analyses, asked_levels.parts, asked_levels.restorings, asked_levels.there_and_back, asked_levels.refusals,
                   asked_planes.lengths, asked_planes.analyses, asked_planes.there_and_back, asked_planes.syntheses, asked_planes.refused_analyses, asked_planes.refused_syntheses,
                   asked_planes.comparings):
@@ -53,9 +53,9 @@ def lists():
     questions = of_rules()
     return {
         DATA / 'rules': ["# Calls and the answers of docs/RULES.md to them, computed by judge/rules.py and judge/sums.py; judge/asked.py and the two beside it ask.", *protocol.FORM, *answered(questions)],
-        DATA / 'examples': ["# P1 to P12 of docs/RULES.md, made by judge/examples.py of the list that is proved in crates/worked/specs/Examples.antt.", *protocol.FORM, *answered(examples.questions())],
+        DATA / 'examples': ["# P1 to P13 of docs/RULES.md, made by judge/examples.py of the list that is proved in crates/worked/specs/Examples.antt.", *protocol.FORM, *answered(examples.questions())],
         ROOT / 'crates/example/stdout': shown.lines(),
-        SMALL: ["# P1 to P12 of docs/RULES.md, and a few of the questions that crates/replay/data/rules has of each operation.", *protocol.FORM, *answered(examples.questions()), *answered(few(questions))]}
+        SMALL: ["# P1 to P13 of docs/RULES.md, and a few of the questions that crates/replay/data/rules has of each operation.", *protocol.FORM, *answered(examples.questions()), *answered(few(questions))]}
 
 
 def misnamed():

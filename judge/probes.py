@@ -54,7 +54,7 @@ def main():
     told = parser.parse_args()
     cases = [case for _, case, _, _, _ in PROBES]
     bad = 0
-    for side, data in zip(('the Rust', 'ours'), Sides(told.work, told.driver, told.host).run(cases), strict=True):
+    for side, data in zip(('the Rust', 'ours'), Sides(told.work, rust=told.driver, ours=told.host).run(cases), strict=True):
         for (name, _, buffer, start, end), result in zip(PROBES, results(cases, data), strict=True):
             words = words_of(result.buffers[buffer])[start:end]
             good = result.number == 0 and set(words) == {TWICE}

@@ -16,7 +16,9 @@ PATTERN = 0xCCCCCCCCCCCCCCCC
 ONE_NAN = 0x7FF8000000000000
 # the driver's own numbers; not run is what would end the driver
 PANICKED, NO_COUNTERPART, NO_NUMBER, NOT_RUN = 1000, 1001, 1002, 1003
-BORDERS = ('Clamp', 'Wrap', 'Reflect', 'Zeros', 'Reflect101')
+BORDERS = ('Clamp', 'Wrap', 'Reflect', 'Zeros', 'Reflect101', 'Mirror', 'Mirror101')
+# the numbers of those that the Rust has, and of the others
+RUST_BORDERS, MIRRORS = range(5), range(5, len(BORDERS))
 
 Shape = collections.namedtuple('Shape', 'name scalars lists lent')
 # Every operation's number and name, once: ANALYSE and so on are made of them below, and `protocol.py c` and `protocol.py rust` print them for the judge's two sides.

@@ -1,6 +1,6 @@
 """What crates/example has to print, from the rules and sums of docs/RULES.md: a label and a number, and a line for each float."""
 import sums
-from asked import bits, CLAMP, LOW8, mirrored, REFLECT101, sevens, SUMS, times, WRAP
+from asked import bits, CLAMP, LOW8, MIRROR, MIRROR101, mirrored, REFLECT101, sevens, SUMS, times, WRAP
 
 
 def floats(label, numbers):
@@ -40,4 +40,5 @@ def back(border):
 
 
 def lines():
-    return [*banks(), *bands(), *parts(), *restored(2), *restored(3), *back(CLAMP), *back(WRAP), *back(REFLECT101), 'refused 4, have 5', 'need 6', *floats('out', sevens(5))]
+    returned = [line for border in (CLAMP, WRAP, REFLECT101, MIRROR, MIRROR101) for line in back(border)]
+    return [*banks(), *bands(), *parts(), *restored(2), *restored(3), *returned, 'refused 4, have 5', 'need 6', *floats('out', sevens(5))]

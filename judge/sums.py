@@ -6,6 +6,11 @@ from protocol import (ANALYSE, ANALYSE_LEVELS, ANALYSE_PLANE, BORDERS, CONVOLVE,
                       SYNTHESISE_PLANE, THERE_AND_BACK)
 
 
+def folded(n, top, q):
+    """There and back over n places."""
+    return q if q < n else top - q
+
+
 def sample(border, line, i):
     """What stands at place i of a line, negative on the left."""
     n, name = len(line), BORDERS[border]
@@ -19,8 +24,14 @@ def sample(border, line, i):
         return line[n - 1 - i % n]
     if name == 'Zeros':
         return 0.0
-    assert name == 'Reflect101'
-    return line[0] if n == 1 else line[-i] if i < 0 else line[2 * (n - 1) - i]
+    if name == 'Mirror':
+        return line[folded(n, 2 * n - 1, i % (2 * n))]
+    if n == 1:
+        return line[0]
+    if name == 'Reflect101':
+        return line[-i] if i < 0 else line[2 * (n - 1) - i]
+    assert name == 'Mirror101'
+    return line[folded(n, 2 * (n - 1), i % (2 * (n - 1)))]
 
 
 def padded(border, line, left, right):

@@ -7,9 +7,12 @@ import os, re, struct, sys
 
 NUMBER = rb'(?:0|-?[1-9][0-9]{0,6})'
 LINE = rb'((?:' + NUMBER + rb'(?: ' + NUMBER + rb')*)?)\n'
-TEXT = re.compile(rb'(Clamp|Wrap|Reflect|Zeros|Reflect101)\n' + LINE * 3 + rb'\Z')
+TEXT = re.compile(rb'(Clamp|Wrap|Reflect|Zeros|Reflect101|Mirror|Mirror101)\n' + LINE * 3 + rb'\Z')
 
 def numbers(line): return [int(word) for word in line.split()]
+
+# there and back over n places
+def folded(n, top, q): return q if q < n else top - q
 
 # which sample stands at place i of n
 def source(border, n, i):
@@ -18,7 +21,9 @@ def source(border, n, i):
     if border == b'Wrap': return i % n
     if border == b'Reflect': return n - 1 - i % n
     if border == b'Zeros': return None
+    if border == b'Mirror': return folded(n, 2 * n - 1, i % (2 * n))
     if n == 1: return 0
+    if border == b'Mirror101': return folded(n, 2 * (n - 1), i % (2 * (n - 1)))
     return -i if i < 0 else 2 * (n - 1) - i
 
 def band(border, taps, line):

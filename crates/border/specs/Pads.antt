@@ -13,12 +13,12 @@ use Rattle.numbers.specs.Words.{plusZero, at, tab, written, placed}
 use Rattle.numbers.specs.Write.{length-placed, getD-placed-before, getD-placed-behind, part-placed, tab-getD}
 use Rattle.numbers.specs.Places.{getD-any, part-apart, is-placed, getD-part, getD-placed-in, placed-front, drop-behind}
 use Rattle.border.specs.declared.Border.{Border}
-use Rattle.border.specs.Rule.{padded}
-use Rattle.border.specs.Reach.{Asked, Paddable, Fillable, filled}
-use Rattle.border.specs.Rules.{padded-line}
+use Rattle.border.specs.Rule.{placeIn, padded}
+use Rattle.border.specs.Reach.{Reach, Paddable, Fillable, filled}
+use Rattle.border.specs.Rules.{near-in, padded-line}
 
-pub fill-asked : {b : Border} {n len left from count : ℕ} → Fillable b n len left from count → (i : ℕ) → i < count → Asked b n left (from + i)
-fill-asked f i h = record { some = f .some; few = f .few; near = λ e k. (omega (arith, f .near e k), omega (arith, f .near e k)) }
+pub fill-reach : {b : Border} {n len left from count : ℕ} → Fillable b n len left from count → (i : ℕ) → i < count → Reach b (placeIn left (from + i)) n
+fill-reach {n = n} {left = left} {from = from} f i h = record { some = f .some; few = f .few; near = λ e k. near-in n left (from + i) (omega (arith, f .near e k)) (omega (arith, f .near e k)) }
 
 pub filled-part : {b : Border} {n left from count : ℕ} (x : List Float) (i : ℕ) → Fillable b n (length x) left from count → i ≤ count → take n (drop left (filled b left n from i x)) ≡ take n (drop left x)
 filled-part {b} {n} {left} {from} {count} x i f h =

@@ -8,4 +8,17 @@ pub enum Border {
     Reflect,
     Zeros,
     Reflect101,
+    Mirror,
+    Mirror101,
 }
+
+// In the order of their numbers (RULES, Borders).
+pub const BORDERS: [Border; 7] = [
+    Border::Clamp,
+    Border::Wrap,
+    Border::Reflect,
+    Border::Zeros,
+    Border::Reflect101,
+    Border::Mirror,
+    Border::Mirror101,
+];

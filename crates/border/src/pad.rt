@@ -2,23 +2,53 @@
 ghost use mathlib.Core.Path.{_≡_};
 ghost use Prim.Native.Nat.{_+_, _≤_};
 ghost use lib.ListN.{length, take, drop};
-ghost use Rattle.numbers.specs.Words.{plusZero, at, written, placed};
+ghost use Rattle.numbers.specs.Words.{plusZero, at, written, placed, replaced};
 ghost use Rattle.border.specs.Rule.{padded};
-ghost use Rattle.border.specs.Reach.{Fillable, Paddable, Movable, PaddableWithin, filled};
+ghost use Rattle.border.specs.Reach.{Walkable, Paddable, Movable, PaddableWithin, lapAt};
 use crate::Border;
-use crate::rule::padded_at;
+use crate::rule::Way;
+use crate::rule::modulo;
+use crate::rule::next;
+use crate::rule::place_in;
+use crate::rule::turned;
+use crate::rule::way_of;
 use numbers::copying::copy_line;
 
-// `count` places from `from` on of the padded line that begins where s does. Its samples are in place.
-pub fn fill(border: Border, s: &mut [f64], left: usize, n: usize, from: usize, count: usize)
-    requires { ⌜ Fillable border n (length (now s)) left from count ⌝ }
-    ensures { λ _. ⌜ now (s .exit) ≡ filled border left n from count (now (s .entry)) ⌝ }
+// x, over and over.
+fn repeat(s: &mut [f64], x: f64, from: usize, count: usize)
+    requires { ⌜ from + count ≤ length (now s) ⌝ }
+    ensures { λ _. ⌜ now (s .exit) ≡ placed (λ k. x) from count (now (s .entry)) ⌝ }
 {
-    let end = left + n;
     let mut i = 0usize;
     while i < count {
-        let x = padded_at(border, &s[left..end], left, from + i);
         s[from + i] = x;
+        i += 1;
+    }
+}
+
+// The samples that are in place from `left` on, lap by lap, each place as its distance from them has it.
+fn walk(
+    s: &mut [f64],
+    left: usize,
+    n: usize,
+    from: usize,
+    count: usize,
+    period: usize,
+    turn: usize,
+    top: usize,
+)
+    requires { ⌜ Walkable n (length (now s)) left from count period turn top ⌝ }
+    ensures { λ _. ⌜ now (s .exit) ≡ replaced (lapAt left period turn top (now (s .entry))) from count (now (s .entry)) ⌝ }
+{
+    if count == 0 {
+        return;
+    }
+    let mut q = modulo(place_in(left, from), period);
+    let mut i = 0usize;
+    while i < count {
+        let k = turned(q, turn, top);
+        s[from + i] = s[left + k];
+        q = next(q, period);
         i += 1;
     }
 }
@@ -28,8 +58,27 @@ pub fn pad_ends(border: Border, s: &mut [f64], left: usize, n: usize, right: usi
     requires { ⌜ Paddable border n left right × (left + n + right ≤ length (now s)) ⌝ }
     ensures { λ _. ⌜ now (s .exit) ≡ written (padded plusZero border (take n (drop left (now (s .entry)))) left) (left + n + right) (now (s .entry)) ⌝ }
 {
-    fill(border, s, left, n, 0, left);
-    fill(border, s, left, n, left + n, right);
+    if left + right == 0 {
+        return;
+    }
+    let end = left + n;
+    let way = way_of(border, n);
+    match way {
+        Way::Ends => {
+            let first = s[left];
+            repeat(s, first, 0, left);
+            let last = s[end - 1];
+            repeat(s, last, end, right);
+        }
+        Way::Nothing => {
+            repeat(s, 0.0, 0, left);
+            repeat(s, 0.0, end, right);
+        }
+        Way::Laps { period, turn, top } => {
+            walk(s, left, n, 0, left, period, turn, top);
+            walk(s, left, n, end, right, period, turn, top);
+        }
+    }
 }
 
 // n numbers of s, from `from` on, go to s from `to` on, apart from where they lie.

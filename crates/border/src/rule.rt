@@ -1,10 +1,9 @@
-// The border rule: which sample stands at a place of a line, or zero.
+// The border rule: how the samples of a line go on beyond it.
 ghost use mathlib.Core.Path.{_≡_};
-ghost use Prim.Native.Nat.{_-_, _<_, _≤_};
-ghost use lib.ListN.{length};
-ghost use Rattle.numbers.specs.Words.{longest, plusZero};
-ghost use Rattle.border.specs.Rule.{nearest, modulo, across, outside, source, placeIn, valueOf, padded};
-ghost use Rattle.border.specs.Reach.{Past, Near, Reach, Within, Asked};
+ghost use Prim.Native.Nat.{_+_, _%_, _<_, _≤_};
+ghost use Rattle.numbers.specs.Words.{longest};
+ghost use Rattle.border.specs.Rule.{modulo, turned, placeIn};
+ghost use Rattle.border.specs.Reach.{Lap, Goes, lapsOf};
 use crate::Border;
 
 // A signed place, by its sign.
@@ -14,20 +13,27 @@ pub enum Place {
     At(usize),
 }
 
-pub enum Source {
-    Sample(usize),
-    Zero,
+// What stands beyond a line, on both sides: the nearest end, nothing, or its samples lap by lap.
+pub enum Way {
+    Ends,
+    Nothing,
+    // Place q of a lap is sample q below `turn`, and sample top - q from there on.
+    Laps {
+        period: usize,
+        turn: usize,
+        top: usize,
+    },
 }
 
-// The nearest end.
-pub fn nearest(place: Place, n: usize) -> usize
+// The remainder. Most places are near, and need none.
+fn rest(k: usize, n: usize) -> usize
     requires { ⌜ 0 < n ⌝ }
-    ensures { λ r. ⌜ r ≡ nearest place n ⌝ }
+    ensures { λ r. ⌜ (r ≡ k % n) × (r < n) ⌝ }
 {
-    match place {
-        Place::Before(_) => 0,
-        Place::At(_i) => n - 1,
+    if k < n {
+        return k;
     }
+    k % n
 }
 
 // The place modulo n, never negative.
@@ -36,62 +42,63 @@ pub fn modulo(place: Place, n: usize) -> usize
     ensures { λ r. ⌜ (r ≡ modulo place n) × (r < n) ⌝ }
 {
     match place {
-        Place::Before(k) => n - 1 - k % n,
-        Place::At(i) => i % n,
+        Place::Before(k) => n - 1 - rest(k, n),
+        Place::At(i) => rest(i, n),
     }
 }
 
-// The mirror border, which begins anew with every n places.
-pub fn reflect(place: Place, n: usize) -> usize
+// The place behind q in a lap.
+pub fn next(q: usize, period: usize) -> usize
+    requires { ⌜ q < period ⌝ }
+    ensures { λ r. ⌜ r ≡ (q + 1) % period ⌝ }
+{
+    let r = q + 1;
+    if r == period {
+        return 0;
+    }
+    r
+}
+
+// There and back: q below `turn`, top - q from there on.
+pub fn turned(q: usize, turn: usize, top: usize) -> usize
+    requires { ⌜ q ≤ top ⌝ }
+    ensures { λ r. ⌜ r ≡ turned turn top q ⌝ }
+{
+    if q < turn {
+        return q;
+    }
+    top - q
+}
+
+// Laps of `turn` places there and `back` places back; `once` is 1 where neither end is repeated. One sample repeats itself.
+fn laps(n: usize, turn: usize, back: usize, once: usize) -> Way
+    requires { ⌜ Lap n turn back once ⌝ }
+    ensures { λ r. ⌜ r ≡ lapsOf n turn back once ⌝ }
+{
+    if n == 1 {
+        return Way::Ends;
+    }
+    let period = turn + back - 2 * once;
+    Way::Laps {
+        period,
+        turn,
+        top: period + once - 1,
+    }
+}
+
+// How a border goes on beyond n samples. As far as Reflect101 goes it is Mirror101.
+pub fn way_of(border: Border, n: usize) -> Way
     requires { ⌜ (0 < n) × (n ≤ longest) ⌝ }
-    ensures { λ r. ⌜ r ≡ n - 1 - modulo place n ⌝ }
-{
-    n - 1 - modulo(place, n)
-}
-
-// About an end that is not repeated.
-pub fn across(place: Place, n: usize) -> usize
-    requires { ⌜ (1 < n) × Near place n × Past place n ⌝ }
-    ensures { λ r. ⌜ r ≡ across place n ⌝ }
-{
-    match place {
-        Place::Before(k) => k + 1,
-        Place::At(i) => n - 1 - (i - (n - 1)),
-    }
-}
-
-// What stands at a place outside the line.
-pub fn outside(border: Border, place: Place, n: usize) -> Source
-    requires { ⌜ Reach border place n × Past place n ⌝ }
-    ensures { λ r. ⌜ r ≡ outside border place n ⌝ }
+    ensures { λ r. ⌜ Goes border n r ⌝ }
 {
     match border {
-        Border::Clamp => Source::Sample(nearest(place, n)),
-        Border::Wrap => Source::Sample(modulo(place, n)),
-        Border::Reflect => Source::Sample(reflect(place, n)),
-        Border::Zeros => Source::Zero,
-        Border::Reflect101 => {
-            if n == 1 {
-                return Source::Sample(0);
-            }
-            Source::Sample(across(place, n))
-        }
-    }
-}
-
-// What stands at any place: within the line, the sample itself.
-pub fn source_at(border: Border, place: Place, n: usize) -> Source
-    requires { ⌜ Reach border place n ⌝ }
-    ensures { λ r. ⌜ r ≡ source border place n ⌝ }
-{
-    match place {
-        Place::Before(_k) => outside(border, place, n),
-        Place::At(i) => {
-            if i < n {
-                return Source::Sample(i);
-            }
-            outside(border, place, n)
-        }
+        Border::Clamp => Way::Ends,
+        Border::Wrap => laps(n, n, 0, 0),
+        Border::Reflect => laps(n, 0, n, 0),
+        Border::Zeros => Way::Nothing,
+        Border::Reflect101 => laps(n, n, n, 1),
+        Border::Mirror => laps(n, n, n, 0),
+        Border::Mirror101 => laps(n, n, n, 1),
     }
 }
 
@@ -103,22 +110,4 @@ pub fn place_in(left: usize, q: usize) -> Place
         return Place::Before(left - 1 - q);
     }
     Place::At(q - left)
-}
-
-pub fn value(line: &[f64], source: Source) -> f64
-    requires { ⌜ Within source (length (now line)) ⌝ }
-    ensures { λ r. ⌜ r ≡ valueOf plusZero (now (line .entry)) source ⌝ }
-{
-    match source {
-        Source::Sample(k) => line[k],
-        Source::Zero => 0.0,
-    }
-}
-
-// Place q of the padded line, which need not be built.
-pub fn padded_at(border: Border, line: &[f64], left: usize, q: usize) -> f64
-    requires { ⌜ Asked border (length (now line)) left q ⌝ }
-    ensures { λ r. ⌜ r ≡ padded plusZero border (now (line .entry)) left q ⌝ }
-{
-    value(line, source_at(border, place_in(left, q), line.len()))
 }

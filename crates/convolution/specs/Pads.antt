@@ -1,14 +1,15 @@
 -- The pads of convolution and its limits, for n samples, a kernel of f taps and a centre c. Definitions only.
-use mathlib.Core.Bool.{Bool, false, _&&_, _||_}
+use mathlib.Core.Bool.{Bool, _&&_, _||_}
 use Prim.Native.Nat.{ℕ, _+_, _-_, _/_, _%_}
-use lib.Dec.{ltb}
+use lib.Dec.{ltb, eqb}
 use lib.IntN.{ℤ, pos, negsuc, _-ℤ_}
 use lib.Signed.{ltZ}
 use Rattle.numbers.specs.Words.{longest}
 use Rattle.border.specs.declared.Border.{Border}
-use Rattle.border.specs.declared.Border.the-variants.{Clamp, Wrap, Reflect, Zeros, Reflect101}
+use Rattle.border.specs.declared.Border.the-variants.{Reflect101}
 use Rattle.border.specs.declared.rule.Place.{Place}
 use Rattle.border.specs.declared.rule.Place.the-variants.{Before, At}
+use Rattle.border.specs.Rule.{numberOf}
 
 -- over 1,048,576 samples or 64 taps, or a centre outside -2^31 .. 2^31 - 1
 unfoldable pub beyond : ℕ → ℕ → ℤ → Bool
@@ -37,11 +38,7 @@ padOver n left right = ltb 1 n && (ltb n (left + 2) || ltb n (right + 2))
 
 -- and the border is Reflect101
 abbrev pub tooFar : Border → ℕ → ℕ → ℕ → Bool
-tooFar Clamp n left right = false
-tooFar Wrap n left right = false
-tooFar Reflect n left right = false
-tooFar Zeros n left right = false
-tooFar Reflect101 n left right = padOver n left right
+tooFar b n left right = padOver n left right && eqb (numberOf b) (numberOf Reflect101)
 
 -- a centre by its sign: `Before k` is -(k + 1)
 abbrev pub centreOf : Place → ℤ

@@ -1,5 +1,5 @@
 -- Laws of the tests: where an answer is done every test passed, which gives the work what it asks for.
-use mathlib.Core.Path.{_≡_, refl, sym, subst}
+use mathlib.Core.Path.{_≡_, refl, sym, subst, _∙_}
 use Rattle.border.specs.declared.Border.{Border}
 use Rattle.convolution.specs.declared.Convolution.the-variants.{Done}
 use Rattle.convolution.specs.Convolutions.{numberOf, answerOf}
@@ -12,7 +12,7 @@ use Rattle.numbers.specs.Words.{at, longest}
 use borrow.Author.Tests.{eqb-false, eqb-true, lt-ltb, ltb-false, ne-eqb, not-false}
 use lib.Dec.{eqb, leb, lit<, ltb}
 use lib.IntN.{natAbs, ℤ}
-use mathlib.Core.Bool.{false, not}
+use mathlib.Core.Bool.{false, not, and-true}
 use native.Mathlib.Omega.{arith}
 use Rattle.convolution.specs.Works.{Kernel}
 
@@ -64,7 +64,7 @@ pads {b} {n} {o} {f} {c} p el er = record {
   some = p .some;
   few = p .limit;
   near = λ e h.
-      let t : padOver n (leftPad f c) (rightPad f c) ≡ false = subst (λ (x : Border). tooFar x n (leftPad f c) (rightPad f c) ≡ false) e (p .near) in
+      let t : padOver n (leftPad f c) (rightPad f c) ≡ false = sym (and-true _) ∙ subst (λ (x : Border). tooFar x n (leftPad f c) (rightPad f c) ≡ false) e (p .near) in
       let q = neither (ltb n (leftPad f c + 2)) (ltb n (rightPad f c + 2)) (simp (lt-ltb 1 n h) at t) in
       (omega (arith, ltb-false n (leftPad f c + 2) (q .0)), omega (arith, ltb-false n (rightPad f c + 2) (q .1)));
 }

@@ -66,10 +66,7 @@ pub fn too_far(border: Border, n: usize, left: usize, right: usize) -> bool
     ensures { λ r. ⌜ r ≡ tooFar border n left right ⌝ }
 {
     match border {
-        Border::Clamp => false,
-        Border::Wrap => false,
-        Border::Reflect => false,
-        Border::Zeros => false,
         Border::Reflect101 => over(n, left, right),
+        _ => false,
     }
 }

@@ -18,9 +18,7 @@ use Rattle.whole.specs.Terms.{factor-ℕ}
 use Rattle.whole.specs.Floats.{Whole, Within, atℤ, Holds}
 use Rattle.whole.specs.Exact.{zero-whole}
 use Rattle.border.specs.declared.Border.{Border}
-use Rattle.border.specs.declared.rule.Source.{Source}
-use Rattle.border.specs.declared.rule.Source.the-variants.{Sample, Zero}
-use Rattle.border.specs.Rule.{source, placeIn, valueOf, padded}
+use Rattle.border.specs.Rule.{Source, Sample, Zero, source, placeIn, valueOf, padded}
 use Rattle.bank.specs.Lengths.{pairs, lineLength}
 use Rattle.analysis.specs.Sums.{analysed}
 use Rattle.analysis.specs.Lines.{paddedAt, band}

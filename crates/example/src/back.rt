@@ -41,6 +41,8 @@ pub fn returned() {
     back(Border::Clamp, &mut [7.0f64; 6]);
     back(Border::Wrap, &mut [7.0f64; 6]);
     back(Border::Reflect101, &mut [7.0f64; 6]);
+    back(Border::Mirror, &mut [7.0f64; 6]);
+    back(Border::Mirror101, &mut [7.0f64; 6]);
     // A refusal says why and leaves every buffer as it was.
     back(Border::Wrap, &mut [7.0f64; 5]);
 }

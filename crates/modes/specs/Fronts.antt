@@ -1,16 +1,19 @@
--- Laws of the loop over a name: up to here the two are alike, so the rest decides.
+-- Laws of the loops over a name and over the borders: up to here the two are alike, or none was found, so the rest decides.
 use mathlib.Core.Path.{_≡_, refl, sym, ap, _∙_}
-use mathlib.Core.Bool.{Bool, true, false, _&&_}
+use mathlib.Core.Bool.{Bool, true, false, cond, _&&_}
 use mathlib.Core.List.{List, [], _∷_}
 use Prim.Native.Nat.{ℕ, zero, suc, _+_, _-_, _≤_, _<_}
 use native.Mathlib.Omega.{arith}
 use borrow.Author.Tests.{eq-eqb, ne-eqb}
 use lib.Dec.{eqb}
-use lib.ListN.{length, drop, getD, drop-of-length-le}
-use Rattle.modes.specs.Names.{begins}
+use lib.ListN.{length, drop, getD, drop-of-length-le, length-append}
+use Rattle.border.specs.declared.Border.{Border}
+use Rattle.texts.specs.Texts.{newline, nameOf}
+use Rattle.modes.specs.declared.Mode.the-variants.{Found}
+use Rattle.modes.specs.Names.{begins, front, modeText, foundIn}
 
--- the rest of a text begins with the byte at its place
-pub drop-at : (text : List ℕ) (at d : ℕ) → at < length text → drop at text ≡ getD text at d ∷ drop (suc at) text
+-- the rest of a list begins with what stands at its place
+pub drop-at : {A : Type 0} (text : List A) (at : ℕ) (d : A) → at < length text → drop at text ≡ getD text at d ∷ drop (suc at) text
 drop-at [] at d h = absurd (omega (arith, h))
 drop-at (c ∷ text) zero d h = refl
 drop-at (c ∷ text) (suc at) d h = drop-at text at d (omega (arith, h))
@@ -36,3 +39,19 @@ module _ (text name : List ℕ) (i : ℕ) (s : begins (drop i name) (drop i text
   begins-more h l e =
       let one : i + 1 ≡ suc i = omega arith in
       ap (λ (k : ℕ). begins (drop k name) (drop k text)) one ∙ ap (λ (b : Bool). b && begins (drop (suc i) name) (drop (suc i) text)) (sym (eq-eqb _ _ e)) ∙ here h l
+
+-- a border's line is where the text begins with it, and no line is empty
+module _ (text : List ℕ) (b : Border) (others : List Border) {next : ℕ} (e : next ≡ front (modeText b) text) where
+  pub found-here : 0 < next → Found b next ≡ foundIn text (b ∷ others)
+  found-here h = go (begins (modeText b) text) e
+    where
+      go : (t : Bool) → next ≡ cond t (length (modeText b)) 0 → Found b next ≡ cond t (Found b (length (modeText b))) (foundIn text others)
+      go true q = ap (Found b) q
+      go false q = absurd (omega (arith, h, q))
+
+  pub found-later : next ≤ 0 → foundIn text (b ∷ others) ≡ foundIn text others
+  found-later h = go (begins (modeText b) text) e
+    where
+      go : (t : Bool) → next ≡ cond t (length (modeText b)) 0 → cond t (Found b (length (modeText b))) (foundIn text others) ≡ foundIn text others
+      go true q = absurd (omega (arith, h, q, length-append (nameOf b) (newline ∷ [])))
+      go false q = refl

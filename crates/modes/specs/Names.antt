@@ -5,7 +5,7 @@ use Prim.Native.Nat.{ℕ}
 use lib.Dec.{eqb}
 use lib.ListN.{length}
 use Rattle.border.specs.declared.Border.{Border}
-use Rattle.border.specs.declared.Border.the-variants.{Clamp, Wrap, Reflect, Zeros, Reflect101}
+use Rattle.border.specs.Rule.{borders}
 use Rattle.texts.specs.Texts.{newline, nameOf}
 use Rattle.modes.specs.declared.Mode.{Mode}
 use Rattle.modes.specs.declared.Mode.the-variants.{Unknown, Found}
@@ -15,6 +15,10 @@ begins [] t = true
 begins (x ∷ name) [] = false
 begins (x ∷ name) (y ∷ t) = eqb y x && begins name t
 
+-- how long a name is, where the text begins with it
+abbrev pub front : List ℕ → List ℕ → ℕ
+front name t = cond (begins name t) (length name) 0
+
 -- the mode's line
 abbrev pub modeText : Border → List ℕ
 modeText b = nameOf b ++ (newline ∷ [])
@@ -22,5 +26,10 @@ modeText b = nameOf b ++ (newline ∷ [])
 abbrev pub tried : List ℕ → Border → Mode → Mode
 tried t b other = cond (begins (modeText b) t) (Found b (length (modeText b))) other
 
+-- the first of a list of borders whose line the text begins with
+abbrev pub foundIn : List ℕ → List Border → Mode
+foundIn t [] = Unknown
+foundIn t (b ∷ others) = tried t b (foundIn t others)
+
 abbrev pub modeOf : List ℕ → Mode
-modeOf t = tried t Clamp (tried t Wrap (tried t Reflect (tried t Zeros (tried t Reflect101 Unknown))))
+modeOf t = foundIn t borders

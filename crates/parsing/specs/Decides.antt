@@ -12,12 +12,13 @@ use lib.Ieee.{binary64}
 use Rattle.numbers.specs.Tests.{both}
 use Rattle.whole.specs.Floats.{floats}
 use Rattle.border.specs.declared.Border.{Border}
-use Rattle.border.specs.declared.Border.the-variants.{Clamp, Wrap, Reflect, Zeros, Reflect101}
+use Rattle.border.specs.declared.Border.the-variants.{Clamp, Wrap, Reflect, Zeros, Reflect101, Mirror, Mirror101}
+use Rattle.border.specs.Rule.{borders}
 use Rattle.texts.specs.Texts.{newline, nameOf, lineText, listsText, longestText, InRange, Request, Stands}
 use Rattle.texts.specs.Numerals.{either}
 use Rattle.modes.specs.declared.Mode.{Mode}
 use Rattle.modes.specs.declared.Mode.the-variants.{Unknown, Found}
-use Rattle.modes.specs.Names.{begins, modeText, tried, modeOf}
+use Rattle.modes.specs.Names.{begins, modeText, foundIn, modeOf}
 use Rattle.parsing.specs.Steps.{Got, got, gotOf, three, emptied, threeOf}
 use Rattle.parsing.specs.Complete.{line-read}
 use Rattle.parsing.specs.Sound.{line-sound}
@@ -53,11 +54,12 @@ isFound (Found border next) = true
 abbrev Fronts : List ℕ → Mode → Type 0
 Fronts t m = (m ≡ Unknown → ⊥) → (t ≡ modeText (borderIn m) ++ drop (nextIn m) t) × (nextIn m ≤ length t)
 
+fronts-in : (t : List ℕ) (l : List Border) → Fronts t (foundIn t l)
+fronts-in t [] = λ n. absurd (n refl)
+fronts-in t (b ∷ l) = either (Fronts t) (begins (modeText b) t) (λ e n. (begins-drop (modeText b) t e, begins-fits (modeText b) t e)) (λ e. fronts-in t l)
+
 fronts : (t : List ℕ) → Fronts t (modeOf t)
-fronts t = try Clamp _ (try Wrap _ (try Reflect _ (try Zeros _ (try Reflect101 _ (λ n. absurd (n refl))))))
-  where
-    try : (b : Border) (other : Mode) → Fronts t other → Fronts t (tried t b other)
-    try b other f = either (Fronts t) (begins (modeText b) t) (λ e n. (begins-drop (modeText b) t e, begins-fits (modeText b) t e)) (λ e. f)
+fronts t = fronts-in t borders
 
 pub mode-inside : (t : List ℕ) (b : Border) (next : ℕ) → modeOf t ≡ Found b next → next ≤ length t
 mode-inside t b next e = subst (λ (n : ℕ). n ≤ length t) (ap nextIn e) (fronts t (λ u. true≢false (sym (ap isFound e) ∙ ap isFound u)) .1)
@@ -69,6 +71,8 @@ mode-read Wrap r = refl
 mode-read Reflect r = refl
 mode-read Zeros r = refl
 mode-read Reflect101 r = refl
+mode-read Mirror r = refl
+mode-read Mirror101 r = refl
 
 drop-front : (l r : List ℕ) → drop (length l) (l ++ r) ≡ r
 drop-front [] r = refl

@@ -1,24 +1,21 @@
 -- Borders by number, and the refusal of a number that names none. Definitions only.
 use mathlib.Core.Path.{_≡_}
-use mathlib.Core.Bool.{Bool, cond, true, false}
+use mathlib.Core.Bool.{Bool, true, false}
 use mathlib.Core.List.{List, [], _∷_}
 use Prim.Native.Nat.{ℕ}
-use lib.Dec.{ltb, eqb}
+use lib.Dec.{leb}
+use lib.ListN.{length, getD}
 use Rattle.border.specs.declared.Border.{Border}
-use Rattle.border.specs.declared.Border.the-variants.{Clamp, Wrap, Reflect, Zeros, Reflect101}
+use Rattle.border.specs.declared.Border.the-variants.{Clamp}
+use Rattle.border.specs.Rule.{borders}
 use Rattle.telling.specs.Told.{Told, ToldOf}
 
--- in the order of RULES, Borders
-unfoldable pub borderOf : ℕ → Border
-borderOf k =
-    cond (eqb k 0) Clamp
-    (cond (eqb k 1) Wrap
-    (cond (eqb k 2) Reflect
-    (cond (eqb k 3) Zeros
-    Reflect101)))
+-- in the order of RULES, Borders; of a number that names none it is never asked
+abbrev pub borderOf : ℕ → Border
+borderOf k = getD borders k Clamp
 
 abbrev pub noBorder : ℕ → Bool
-noBorder k = ltb 4 k
+noBorder k = leb (length borders) k
 
 -- the same under a border that is told by number; where the number names none it is 26, which carries it, and nothing that was lent has changed
 pub record ToldUnder (border : ℕ) {A : Type 0} (number : A → ℕ) (values : A → List ℕ) (promise : Border → A → Type 0) (unchanged : Type 0) (words : List ℕ) (r : ℕ) (words′ : List ℕ) : Type 0 where

@@ -3,9 +3,7 @@ use mathlib.Core.Path.{_≡_, sym, ap, _∙_, subst}
 use mathlib.Core.Bool.{true, false, true≢false}
 use mathlib.Core.List.{List, [], _∷_}
 use Prim.Native.Nat.{ℕ}
-use borrow.Author.Tests.{ne-eqb}
 use Rattle.border.specs.declared.Border.{Border}
-use Rattle.border.specs.declared.Border.the-variants.{Reflect101}
 use Rattle.telling.specs.Told.{Told, ToldOf, carriedFrom}
 use Rattle.telling.specs.Borders.{borderOf, noBorder, ToldUnder}
 
@@ -18,11 +16,6 @@ retold {words = words} e q t = record { given = t .given ∙ e; carried = t .car
 pub told-as : {A : Type 0} (number : A → ℕ) (values : A → List ℕ) {a b : A} {words words′ : List ℕ} {r : ℕ}
     → a ≡ b → Told (number b) (values b) words r words′ → Told (number a) (values a) words r words′
 told-as number values e t = retold (ap number (sym e)) (ap values (sym e)) t
-
--- a number above 3 names the last border
-pub border-rest : (k : ℕ) → (k ≡ 0 → ⊥) → (k ≡ 1 → ⊥) → (k ≡ 2 → ⊥) → (k ≡ 3 → ⊥) → Reflect101 ≡ borderOf k
-unfolding borderOf
-border-rest k n0 n1 n2 n3 = simp (ne-eqb k 0 n0, ne-eqb k 1 n1, ne-eqb k 2 n2, ne-eqb k 3 n3)
 
 -- ---- a promise, told
 pub told-of : {A : Type 0} {number : A → ℕ} {values : A → List ℕ} {promise : A → Type 0} {words words′ : List ℕ} {r : ℕ} (a : A)

@@ -7,7 +7,7 @@ use lib.Dec.{ltb}
 use lib.ListN.{length}
 use lib.IntN.{ℤ, pos, negsuc, natAbs}
 use Rattle.border.specs.declared.Border.{Border}
-use Rattle.border.specs.declared.Border.the-variants.{Clamp, Wrap, Reflect, Zeros, Reflect101}
+use Rattle.border.specs.declared.Border.the-variants.{Clamp, Wrap, Reflect, Zeros, Reflect101, Mirror, Mirror101}
 
 -- bytes by their names
 abbrev pub newline : ℕ
@@ -54,6 +54,8 @@ nameOf Wrap = 87 ∷ 114 ∷ 97 ∷ 112 ∷ []
 nameOf Reflect = 82 ∷ 101 ∷ 102 ∷ 108 ∷ 101 ∷ 99 ∷ 116 ∷ []
 nameOf Zeros = 90 ∷ 101 ∷ 114 ∷ 111 ∷ 115 ∷ []
 nameOf Reflect101 = 82 ∷ 101 ∷ 102 ∷ 108 ∷ 101 ∷ 99 ∷ 116 ∷ 49 ∷ 48 ∷ 49 ∷ []
+nameOf Mirror = 77 ∷ 105 ∷ 114 ∷ 114 ∷ 111 ∷ 114 ∷ []
+nameOf Mirror101 = 77 ∷ 105 ∷ 114 ∷ 114 ∷ 111 ∷ 114 ∷ 49 ∷ 48 ∷ 49 ∷ []
 
 -- what a text asks for
 pub record Request : Type 0 where

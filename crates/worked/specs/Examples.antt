@@ -1,9 +1,9 @@
--- P1 to P12 (RULES, Examples) as one list, in that order and by those numbers, and what it means that they hold. Definitions only; judge/examples.py reads this list.
+-- P1 to P13 (RULES, Examples) as one list, in that order and by those numbers, and what it means that they hold. Definitions only; judge/examples.py reads this list.
 use mathlib.Core.Path.{_≡_}
 use mathlib.Core.List.{List, [], _∷_}
 use Prim.Native.Nat.{ℕ}
 use Rattle.border.specs.declared.Border.{Border}
-use Rattle.border.specs.declared.Border.the-variants.{Clamp, Wrap, Reflect, Zeros, Reflect101}
+use Rattle.border.specs.declared.Border.the-variants.{Clamp, Wrap, Reflect, Zeros, Reflect101, Mirror, Mirror101}
 use Rattle.worked.specs.Questions.{Signed, +_, -_, floats, Question, Split, Join, Over, Left, Edges, Bands, Approx, Restore, Factor, Convolve, Plane, Answer, Numbers, Line, Lines, Refused, answered}
 
 -- the number of an example, what it asks, and what RULES, Examples answers
@@ -51,4 +51,6 @@ examples b =
     ∷ P 11 (Plane b 4 4 (+ 1 ∷ + 1 ∷ []) (+ 1 ∷ - 1 ∷ []) (+ 1 ∷ + 2 ∷ + 3 ∷ + 4 ∷ + 5 ∷ + 6 ∷ + 7 ∷ + 8 ∷ + 9 ∷ + 10 ∷ + 11 ∷ + 12 ∷ + 13 ∷ + 14 ∷ + 15 ∷ + 16 ∷ [])) (line (+ 14 ∷ + 46 ∷ + 22 ∷ + 54 ∷ []))
     ∷ P 12 (Approx b (+ 1 ∷ + 1 ∷ []) (- 0 ∷ - 0 ∷ [])) (line (+ 0 ∷ []))
     ∷ P 12 (Convolve b (- 0 ∷ []) (+ 1 ∷ []) (+ 0)) (line (- 0 ∷ []))
+    ∷ P 13 (Edges Mirror 4 (+ 10 ∷ + 20 ∷ + 30 ∷ [])) (lines (+ 30 ∷ + 30 ∷ + 20 ∷ + 10 ∷ []) (+ 30 ∷ + 20 ∷ + 10 ∷ + 10 ∷ []))
+    ∷ P 13 (Edges Mirror101 4 (+ 10 ∷ + 20 ∷ + 30 ∷ [])) (lines (+ 10 ∷ + 20 ∷ + 30 ∷ + 20 ∷ []) (+ 20 ∷ + 10 ∷ + 20 ∷ + 30 ∷ []))
     ∷ []

@@ -1,4 +1,4 @@
--- Levels besides those of P1 to P12: what else is to say of their lines, and a line of five there and back over two levels; each is computed.
+-- Levels besides those of P1 to P13: what else is to say of their lines, and a line of five there and back over two levels; each is computed.
 use mathlib.Core.Path.{_≡_, refl}
 use mathlib.Core.List.{List, [], _∷_}
 use lib.IntN.{pos, negsuc}

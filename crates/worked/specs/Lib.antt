@@ -1,4 +1,4 @@
--- P1 to P12 (RULES, Examples) as one list with one claim over it (Questions, Examples, Together); other worked cases, each a statement about the same definitions; and of exact restoring, three banks that meet its premises and a line past its bound.
+-- P1 to P13 (RULES, Examples) as one list with one claim over it (Questions, Examples, Together); other worked cases, each a statement about the same definitions; and of exact restoring, three banks that meet its premises and a line past its bound.
 pub mod Questions
 pub mod Examples
 pub mod Together

@@ -1,4 +1,4 @@
--- Borders and taps besides those of P1 to P12: Clamp and Zeros of P5's samples, the scratch of P4, and P8's high taps by the mirror rule; each is computed.
+-- Borders and taps besides those of P1 to P13: Clamp and Zeros of P5's samples, the scratch of P4, and P8's high taps by the mirror rule; each is computed.
 use mathlib.Core.Path.{_≡_, refl}
 use mathlib.Core.List.{List, [], _∷_}
 use Prim.Native.Nat.{ℕ}

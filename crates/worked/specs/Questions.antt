@@ -1,4 +1,4 @@
--- What P1 to P12 (RULES, Examples) ask, and what is answered by the definitions that the entries' promises cite. Every buffer is as long as the rules say. Definitions only.
+-- What P1 to P13 (RULES, Examples) ask, and what is answered by the definitions that the entries' promises cite. Every buffer is as long as the rules say. Definitions only.
 use mathlib.Core.List.{List, [], _∷_, _++_, map}
 use Prim.Native.Nat.{ℕ, suc, _+_, _*_}
 use lib.IntN.{ℤ, pos, negℤ}

@@ -1,7 +1,7 @@
--- Restoring is exact, of three banks: they meet the premises under every border, two of them with samples at the largest A that the bound allows; and a line past the bound is not restored. Each is computed.
+-- Restoring is exact, of three banks: they meet the premises under every border, two of them with samples at the largest A that the bound allows, and one with an odd line, whose next sample is told by border; and a line past the bound is not restored. Each is computed.
 use mathlib.Core.Path.{_≡_, refl, subst}
 use mathlib.Core.Bool.{true, false, _&&_}
-use mathlib.Core.List.{List, [], _∷_}
+use mathlib.Core.List.{List, [], _∷_, map}
 use native.Mathlib.Omega.{arith}
 use lib.Dec.{lit<}
 use lib.ListN.{replicate}
@@ -12,14 +12,14 @@ use Rattle.whole.specs.Sums.{sum}
 use Rattle.whole.specs.Floats.{Whole}
 use Rattle.border.specs.declared.Border.{Border}
 use Rattle.border.specs.declared.Border.the-variants.{Wrap}
-use Rattle.border.specs.Rule.{source, padded}
+use Rattle.border.specs.Rule.{borders, source, padded}
 use Rattle.bank.specs.Lengths.{badTaps}
 use Rattle.summing.specs.Sums.{dot}
 use Rattle.analysis.specs.Sums.{analysed}
 use Rattle.analysis.specs.Lines.{band}
 use Rattle.synthesis.specs.Sums.{joined}
 use Rattle.synthesis.specs.Lines.{synthesised}
-use Rattle.exact.specs.Restoring.{squares, sizes, thereAndBack, Restored}
+use Rattle.exact.specs.Restoring.{squares, sizes, next, thereAndBack, Restored}
 use Rattle.worked.specs.Meeting.{tapsMeet, samplesMeet, boundMeets, heldBy, Met}
 use Rattle.worked.specs.Premised.{premised}
 use Rattle.worked.specs.Whole.{floats, eight, eightHigh, tens}
@@ -37,6 +37,18 @@ p8 b = premised binary64 b eight tens 40 refl
 p8-small : (b : Border) → Met binary32 b eight tens 40
 unfolding sum badTaps
 p8-small b = premised binary32 b eight tens 40 refl
+
+-- an odd line by the same bank, and the next sample that each border puts behind it, in the order of their numbers
+abbrev odd : List ℤ
+odd = pos 5 ∷ pos 0 ∷ pos 3 ∷ negsuc 3 ∷ pos 9 ∷ []
+
+p8-odd : (b : Border) → Met binary64 b eight odd 9
+unfolding sum badTaps
+p8-odd b = premised binary64 b eight odd 9 refl
+
+odd-nexts : map (λ b. next b odd) borders ≡ pos 9 ∷ pos 5 ∷ pos 9 ∷ pos 0 ∷ negsuc 3 ∷ pos 9 ∷ negsuc 3 ∷ []
+unfolding padded source
+odd-nexts = refl
 
 -- ---- the taps 1 1: S = 2, T = 2, with samples at the largest A, 2^50
 abbrev two : List ℤ

@@ -1,11 +1,9 @@
--- P1 to P12 (RULES, Examples) hold, all of one list: each is computed.
+-- P1 to P13 (RULES, Examples) hold, all of one list: each is computed.
 use mathlib.Core.Path.{refl}
-use mathlib.Core.List.{[], _∷_}
 use lib.Ieee.{ofInt, add, mul, neg}
 use Rattle.numbers.specs.Words.{tab}
 use Rattle.whole.specs.Sums.{sum}
 use Rattle.border.specs.declared.Border.{Border}
-use Rattle.border.specs.declared.Border.the-variants.{Clamp, Wrap, Reflect, Zeros, Reflect101}
 use Rattle.border.specs.Rule.{source, padded}
 use Rattle.bank.specs.Lengths.{badTaps}
 use Rattle.summing.specs.Sums.{dot}
@@ -25,19 +23,9 @@ use Rattle.tables.specs.Tables.{tooLarge, crossing}
 use Rattle.planes.specs.Answers as Planes
 use Rattle.plane_analysis.specs.Bands.{planeBand}
 use Rattle.plane_analysis.specs.Analyses as PlaneAnalyses
-use Rattle.worked.specs.Questions.{+_, -_, Convolve}
-use Rattle.worked.specs.Examples.{P, Holds, All, none, _&_, line, examples}
-
--- the last of them by each border, since the tests of a convolution ask which it is
-minus-zero : (b : Border) → Holds (P 12 (Convolve b (- 0 ∷ []) (+ 1 ∷ []) (+ 0)) (line (- 0 ∷ [])))
-unfolding Convolutions.answerOf beyond padOver leftPad convolution convolved tab padded source ofInt mul neg
-minus-zero Clamp = refl
-minus-zero Wrap = refl
-minus-zero Reflect = refl
-minus-zero Zeros = refl
-minus-zero Reflect101 = refl
+use Rattle.worked.specs.Examples.{All, none, _&_, examples}
 
 together : (b : Border) → All (examples b)
-unfolding Analyses.answerOf Syntheses.answerOf Levels.answerOf Convolutions.answerOf PlaneAnalyses.answerOf heldOf askedOf Planes.heldOf Planes.askedOf Planes.bandsOf badTaps tooShort lineAfter detailsTo tooLarge beyond leftPad band analysed dot synthesised joined convolution convolved planeBand crossing tab padded source sum ofInt add mul neg
+unfolding Analyses.answerOf Syntheses.answerOf Levels.answerOf Convolutions.answerOf PlaneAnalyses.answerOf heldOf askedOf Planes.heldOf Planes.askedOf Planes.bandsOf badTaps tooShort lineAfter detailsTo tooLarge beyond leftPad padOver band analysed dot synthesised joined convolution convolved planeBand crossing tab padded source sum ofInt add mul neg
 together b =
-    refl & refl & refl & refl & refl & refl & refl & refl & refl & refl & refl & refl & refl & refl & refl & refl & refl & refl & refl & refl & refl & minus-zero b & none
+    refl & refl & refl & refl & refl & refl & refl & refl & refl & refl & refl & refl & refl & refl & refl & refl & refl & refl & refl & refl & refl & refl & refl & refl & none

@@ -1,74 +1,62 @@
--- `modes::read_mode` meets its contract: the names are tried in the definition's order.
-use mathlib.Core.Path.{sym, _∙_}
+-- `modes::read_mode` meets its contract: none of the borders up to here was found, so the rest of them decide.
+use mathlib.Core.Path.{_≡_, refl, sym, ap, _∙_}
+use Prim.Native.Nat.{ℕ, suc, _+_, _-_, _≤_}
+use native.Mathlib.Omega.{arith}
+use lib.ListN.{length, getD, drop, drop-of-length-le}
 use borrow.Author.Needs.{needs}
+use denote.Ref.{now}
+use Rattle.border.specs.declared.Border.the-variants.{Clamp}
+use Rattle.border.specs.Rule.{borders}
+use Rattle.modes.specs.Names.{foundIn, modeOf}
+use Rattle.modes.specs.Fronts.{drop-at, found-here, found-later}
 use Rattle.modes.proofs.read_mode.Statement.{statement}
 use Rattle.modes.proofs.read_mode.Tie as tie
 
-slice-aggregate-begins : tie.Need-slice-aggregate-begins
-slice-aggregate-begins c = search needs
+abbrev Inv-loop : tie.InvT-loop
+Inv-loop text k₀ k = (foundIn text (drop k borders) ≡ modeOf text) × (k ≤ length borders)
 
-begins-requires : tie.Need-begins-requires
-begins-requires c κs = search needs
+abbrev μ-loop : tie.MeasureT-loop
+μ-loop text k₀ k = length borders - k
 
-returns : tie.Need-returns
-returns c = simp (sym (c .before .begins .ensures) ∙ c .if1 .taken)
+loop-holds : tie.Need-loop-holds Inv-loop μ-loop
+loop-holds c = (refl, omega arith)
 
-slice-aggregate-begins-2 : tie.Need-slice-aggregate-begins-2
-slice-aggregate-begins-2 c = search needs
+array-copy-out-border : tie.Need-array-copy-out-border Inv-loop μ-loop
+array-copy-out-border c = search needs
 
-begins-requires-2 : tie.Need-begins-requires-2
-begins-requires-2 c κs = search needs
+line-of-requires : tie.Need-line-of-requires Inv-loop μ-loop
+line-of-requires c κs = search needs
 
-returns-2 : tie.Need-returns-2
-returns-2 c = simp (sym (c .before .before .before .before .begins .ensures) ∙ c .before .before .before .if1 .left, sym (c .before .begins2 .ensures) ∙ c .if2 .taken)
+returns : tie.Need-returns Inv-loop μ-loop
+returns c = let l = c .before .before .before .before in let text = now (l .before .before .args .text) in let k = l .loop .k in
+    found-here text (getD borders k Clamp) (drop (suc k) borders) (c .before .line-of .ensures) (c .if1 .taken) ∙ ap (foundIn text) (sym (drop-at borders k Clamp (c .before .before .before .loop-test .taken))) ∙ l .loop .inv .0
 
-slice-aggregate-begins-3 : tie.Need-slice-aggregate-begins-3
-slice-aggregate-begins-3 c = search needs
+add-k : tie.Need-add-k Inv-loop μ-loop
+add-k c = search needs
 
-begins-requires-3 : tie.Need-begins-requires-3
-begins-requires-3 c κs = search needs
+loop-less : tie.Need-loop-less Inv-loop μ-loop
+loop-less c = search needs
 
-returns-3 : tie.Need-returns-3
-returns-3 c = simp (sym (c .before .before .before .before .before .before .before .begins .ensures) ∙ c .before .before .before .before .before .before .if1 .left, sym (c .before .before .before .before .begins2 .ensures) ∙ c .before .before .before .if2 .left, sym (c .before .begins3 .ensures) ∙ c .if3 .taken)
+loop-again : tie.Need-loop-again Inv-loop μ-loop
+loop-again c = let l = c .before .before .before .before in let text = now (l .before .before .args .text) in let k = l .loop .k in
+    let one : k + 1 ≡ suc k = omega arith in
+    (ap (λ (j : ℕ). foundIn text (drop j borders)) one ∙ sym (found-later text (getD borders k Clamp) (drop (suc k) borders) (c .before .line-of .ensures) (c .if1 .left)) ∙ ap (foundIn text) (sym (drop-at borders k Clamp (c .before .before .before .loop-test .taken))) ∙ l .loop .inv .0, search needs)
 
-slice-aggregate-begins-4 : tie.Need-slice-aggregate-begins-4
-slice-aggregate-begins-4 c = search needs
-
-begins-requires-4 : tie.Need-begins-requires-4
-begins-requires-4 c κs = search needs
-
-returns-4 : tie.Need-returns-4
-returns-4 c = simp (sym (c .before .before .before .before .before .before .before .before .before .before .begins .ensures) ∙ c .before .before .before .before .before .before .before .before .before .if1 .left, sym (c .before .before .before .before .before .before .before .begins2 .ensures) ∙ c .before .before .before .before .before .before .if2 .left, sym (c .before .before .before .before .begins3 .ensures) ∙ c .before .before .before .if3 .left, sym (c .before .begins4 .ensures) ∙ c .if4 .taken)
-
-slice-aggregate-begins-5 : tie.Need-slice-aggregate-begins-5
-slice-aggregate-begins-5 c = search needs
-
-begins-requires-5 : tie.Need-begins-requires-5
-begins-requires-5 c κs = search needs
-
-returns-5 : tie.Need-returns-5
-returns-5 c = simp (sym (c .before .before .before .before .before .before .before .before .before .before .before .before .before .begins .ensures) ∙ c .before .before .before .before .before .before .before .before .before .before .before .before .if1 .left, sym (c .before .before .before .before .before .before .before .before .before .before .begins2 .ensures) ∙ c .before .before .before .before .before .before .before .before .before .if2 .left, sym (c .before .before .before .before .before .before .before .begins3 .ensures) ∙ c .before .before .before .before .before .before .if3 .left, sym (c .before .before .before .before .begins4 .ensures) ∙ c .before .before .before .if4 .left, sym (c .before .begins5 .ensures) ∙ c .if5 .taken)
-
-returns-6 : tie.Need-returns-6
-returns-6 c = simp (sym (c .before .before .before .before .before .before .before .before .before .before .before .before .before .begins .ensures) ∙ c .before .before .before .before .before .before .before .before .before .before .before .before .if1 .left, sym (c .before .before .before .before .before .before .before .before .before .before .begins2 .ensures) ∙ c .before .before .before .before .before .before .before .before .before .if2 .left, sym (c .before .before .before .before .before .before .before .begins3 .ensures) ∙ c .before .before .before .before .before .before .if3 .left, sym (c .before .before .before .before .begins4 .ensures) ∙ c .before .before .before .if4 .left, sym (c .before .begins5 .ensures) ∙ c .if5 .left)
+returns-2 : tie.Need-returns-2 Inv-loop μ-loop
+returns-2 c = let l = c .before in let text = now (l .before .before .args .text) in
+    ap (foundIn text) (sym (drop-of-length-le borders (c .loop-test .left))) ∙ l .loop .inv .0
 
 pub read-mode-spec : {M : Type 1} → statement M
 read-mode-spec =
     tie.close
     (tie.spec
-    slice-aggregate-begins
-    begins-requires
+    Inv-loop
+    μ-loop
+    loop-holds
+    array-copy-out-border
+    line-of-requires
     returns
-    slice-aggregate-begins-2
-    begins-requires-2
-    returns-2
-    slice-aggregate-begins-3
-    begins-requires-3
-    returns-3
-    slice-aggregate-begins-4
-    begins-requires-4
-    returns-4
-    slice-aggregate-begins-5
-    begins-requires-5
-    returns-5
-    returns-6)
+    add-k
+    loop-less
+    loop-again
+    returns-2)

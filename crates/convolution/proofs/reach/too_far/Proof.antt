@@ -1,57 +1,40 @@
--- `convolution::reach::too_far` meets its contract: a border by its name.
+-- `convolution::reach::too_far` meets its contract: any border but Reflect101 has another number.
 use Rattle.border.specs.declared.Border.{Border}
+use Rattle.border.specs.declared.Border.the-variants.{Reflect101}
+use Rattle.border.specs.Rules.{numbered}
+use Rattle.border.proofs.Border.{enum}
+use types.Run.{OneOf, miss}
+use lib.ListN.{take, drop}
+use Prim.Native.Nat.{ℕ}
+use Rattle.border.specs.Rule.{borders, numberOf}
+use denote.Enum.Declared.{tagOf, declared}
+use borrow.Author.Tests.{ne-eqb}
 use borrow.Author.Needs.{needs}
 use Rattle.convolution.proofs.reach.too_far.Statement.{statement}
 use Rattle.convolution.proofs.reach.too_far.Tie as tie
-use Rattle.convolution.specs.Pads.{tooFar}
-use mathlib.Core.Path.{_∙_, ap, sym}
+use Rattle.convolution.specs.Pads.{tooFar, padOver}
+use mathlib.Core.Bool.{Bool, _&&_, and-true, and-false}
+use mathlib.Core.List.{List, map, _++_}
+use mathlib.Core.Path.{_∙_, ap, subst, sym}
+
+-- the numbers of all the other borders
+abbrev others : List ℕ
+others = let numbers = map numberOf borders in take 4 numbers ++ drop 5 numbers
 
 enum-told : tie.Need-enum-told
 enum-told c = search needs
-
-enum-told-2 : tie.Need-enum-told-2
-enum-told-2 c = search needs
-
-enum-told-3 : tie.Need-enum-told-3
-enum-told-3 c = search needs
-
-enum-told-4 : tie.Need-enum-told-4
-enum-told-4 c = search needs
-
-enum-told-5 : tie.Need-enum-told-5
-enum-told-5 c = search needs
 
 over-requires : tie.Need-over-requires
 over-requires c κs = search needs
 
 returns : tie.Need-returns
-returns c = search needs
+returns c = let s = c .before .before .before in let a = s .args in
+    c .over .ensures ∙ sym (and-true (padOver (a .n) (a .left) (a .right))) ∙ ap (λ (b : Border). tooFar b (a .n) (a .left) (a .right)) (sym (c .before .enum-told .given .1))
 
 returns-2 : tie.Need-returns-2
-returns-2 c = search needs
-
-returns-3 : tie.Need-returns-3
-returns-3 c = search needs
-
-returns-4 : tie.Need-returns-4
-returns-4 c = search needs
-
-returns-5 : tie.Need-returns-5
-returns-5 c = let s = c .before .before .before in
-    c .over .ensures ∙ ap (λ (b : Border). tooFar b (s .args .n) (s .args .left) (s .args .right)) (sym (c .before .enum-told5 .given .1))
+returns-2 c = let a = c .before .args in let p = padOver (a .n) (a .left) (a .right) in
+    let other = ne-eqb _ _ (λ e. miss others 4 tt (subst (λ (b : Border). OneOf others (tagOf (declared enum) b)) (numbered (a .border) Reflect101 e) (c .match .keys2))) in
+    sym (ap (λ (t : Bool). p && t) other ∙ and-false p)
 
 pub too-far-spec : {M : Type 1} → statement M
-too-far-spec =
-    tie.close
-    (tie.spec
-    enum-told
-    enum-told-2
-    enum-told-3
-    enum-told-4
-    enum-told-5
-    over-requires
-    returns
-    returns-2
-    returns-3
-    returns-4
-    returns-5)
+too-far-spec = tie.close (tie.spec enum-told over-requires returns returns-2)

@@ -1,28 +1,20 @@
--- `border_of` meets its contract: each arm is a test of the definition.
-use Rattle.telling.specs.Borders.{borderOf}
-use Rattle.telling.specs.Telling.{border-rest}
-use mathlib.Core.Path.{sym, ap}
+-- `borders::border_of` meets its contract: a number below the count is a place of the list, and no other is.
+use lib.ListN.{List·getD-eq-default}
+use mathlib.Core.Path.{sym}
+use borrow.Author.Needs.{needs}
+use Rattle.border.specs.Rule.{borders}
+use Rattle.border.specs.declared.Border.the-variants.{Clamp}
 use Rattle.telling.proofs.borders.border_of.Statement.{statement}
 use Rattle.telling.proofs.borders.border_of.Tie as tie
 
+array-copy-out-result : tie.Need-array-copy-out-result
+array-copy-out-result c = search needs
+
 returns : tie.Need-returns
-unfolding borderOf
-returns c = sym (ap borderOf (c .match .keys1))
+returns c = search needs
 
 returns-2 : tie.Need-returns-2
-unfolding borderOf
-returns-2 c = sym (ap borderOf (c .match .keys2))
-
-returns-3 : tie.Need-returns-3
-unfolding borderOf
-returns-3 c = sym (ap borderOf (c .match .keys3))
-
-returns-4 : tie.Need-returns-4
-unfolding borderOf
-returns-4 c = sym (ap borderOf (c .match .keys4))
-
-returns-5 : tie.Need-returns-5
-returns-5 c = let r = c .match .rest in border-rest _ (r .0 .0 .0 .1) (r .0 .0 .1) (r .0 .1) (r .1)
+returns-2 c = sym (List·getD-eq-default borders Clamp (c .if1 .left))
 
 pub border-of-spec : {M : Type 1} → statement M
-border-of-spec = tie.close (tie.spec returns returns-2 returns-3 returns-4 returns-5)
+border-of-spec = tie.close (tie.spec array-copy-out-result returns returns-2)
