@@ -4,7 +4,7 @@ use mathlib.Core.Bool.{Bool, true, false, cond}
 use mathlib.Core.List.{List}
 use mathlib.Core.Logic.{_⊎_, ⊎-elim}
 use Prim.Native.Nat.{ℕ, _+_, _-_, _*_, _/_, _%_, _≤_, _<_}
-use native.Mathlib.Nat.{mod-lt, div-add-mod'}
+use native.Mathlib.Nat.{mod-lt, mod-eq-of-lt, mod-add-mod, add-mod-right, add-mul, add-mul-mod-self-right, div-add-mod', div-le-self, le-mul-of-pos-right}
 use native.Mathlib.Omega.{arith}
 use borrow.Author.Tests.{lt-ltb, le-ltb, ltb-true, ltb-false}
 use lib.Dec.{ltb}
@@ -42,6 +42,39 @@ modulo-before k n h = omega (arith, div-add-mod' k n, mod-low k n h)
 
 pub modulo-at : (i n : ℕ) → i ≡ i / n * n + modulo (At i) n
 modulo-at i n = sym (div-add-mod' i n)
+
+-- a place's remainder is that of its count from the front, moved by whole periods so that nothing is below zero
+modulo-as : (period left q : ℕ) → 0 < period → modulo (placeIn left q) period ≡ (q + (left * period - left)) % period
+modulo-as period left q h = go (ltb q left) (ltb-true q left) (ltb-false q left)
+  where
+    long : left ≤ left * period
+    long = le-mul-of-pos-right left h
+
+    go : (t : Bool) → (t ≡ true → q < left) → (t ≡ false → left ≤ q) → modulo (cond t (Before (left - 1 - q)) (At (q - left))) period ≡ (q + (left * period - left)) % period
+    go true y z =
+        let a = left - 1 - q in
+        let d = a / period in
+        let t = left - 1 - d in
+        let parts : left ≡ t + (d + 1) = omega (arith, y refl, div-le-self a period) in
+        let whole : left * period ≡ t * period + (d * period + 1 * period) = ap (λ (k : ℕ). k * period) parts ∙ add-mul t (d + 1) period ∙ ap (λ (k : ℕ). t * period + k) (add-mul d 1 period) in
+        let e : period - 1 - a % period + t * period ≡ q + (left * period - left) = omega (arith, y refl, whole, long, div-add-mod' a period, mod-low a period h) in
+        sym (mod-eq-of-lt (omega (arith, h))) ∙ sym (add-mul-mod-self-right (period - 1 - a % period) t period) ∙ ap (λ (k : ℕ). k % period) e
+    go false y z =
+        let e : q - left + left * period ≡ q + (left * period - left) = omega (arith, z refl, long) in
+        sym (add-mul-mod-self-right (q - left) left period) ∙ ap (λ (k : ℕ). k % period) e
+
+-- k places further on the remainder is k more, and begins anew with each period
+pub modulo-on : (period left q k : ℕ) → 0 < period → modulo (placeIn left (q + k)) period ≡ (modulo (placeIn left q) period + k) % period
+modulo-on period left q k h =
+    let c = left * period - left in
+    let e : q + k + c ≡ q + c + k = omega arith in
+    modulo-as period left (q + k) h
+    ∙ ap (λ (x : ℕ). x % period) e
+    ∙ sym (mod-add-mod (q + c) period k)
+    ∙ ap (λ (x : ℕ). (x + k) % period) (sym (modulo-as period left q h))
+
+pub modulo-period : (period left q : ℕ) → 0 < period → modulo (placeIn left (q + period)) period ≡ modulo (placeIn left q) period
+modulo-period period left q h = modulo-on period left q period h ∙ add-mod-right (modulo (placeIn left q) period) period ∙ mod-eq-of-lt (modulo-low (placeIn left q) period h)
 
 -- there and back is a place of the line
 pub turned-low : (n turn top q : ℕ) → turn ≤ n → top < turn + n → turned turn top q < n

@@ -10,8 +10,7 @@ use denote.Ref.{now}
 use Rattle.border.specs.Rule.{modulo, turned, placeIn}
 use Rattle.border.specs.Reach.{lapAt}
 use Rattle.border.specs.declared.rule.Place.{Place}
-use Rattle.border.specs.Rules.{mod-low, turned-low}
-use Rattle.border.specs.Mirrors.{modulo-on}
+use Rattle.border.specs.Rules.{mod-low, modulo-on, turned-low}
 use Rattle.numbers.specs.Words.{placed}
 use Rattle.numbers.specs.Write.{getD-placed-before, getD-placed-behind, placed-start, placed-step, placed-end}
 use borrow.Author.Needs.{needs}
