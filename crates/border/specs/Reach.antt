@@ -72,6 +72,12 @@ pub record Goes (b : Border) (n : ℕ) (w : Way) : Type 0 where
   pub sound : Sound w n
   pub same : (p : Place) → Past p n → Reach b p n → outside b p n ≡ along w p n
 
+-- a lap is no shorter than its line
+abbrev pub Long : Way → ℕ → Type 0
+Long Ends n = 0 < n
+Long Nothing n = 0 < n
+Long (Laps period turn top) n = n ≤ period
+
 -- n samples can be padded by `left` places in front and `right` behind
 pub record Paddable (b : Border) (n left right : ℕ) : Type 0 where
   pub some : 0 < n

@@ -63,6 +63,10 @@ modulo-as period left q h = go (ltb q left) (ltb-true q left) (ltb-false q left)
         let e : q - left + left * period ≡ q + (left * period - left) = omega (arith, z refl, long) in
         sym (add-mul-mod-self-right (q - left) left period) ∙ ap (λ (k : ℕ). k % period) e
 
+-- a sample of the line has its own remainder
+pub modulo-line : (period left k : ℕ) → modulo (placeIn left (left + k)) period ≡ k % period
+modulo-line period left k = let e : left + k - left ≡ k = omega arith in simp (le-ltb (left + k) left (omega arith), e)
+
 -- k places further on the remainder is k more, and begins anew with each period
 pub modulo-on : (period left q k : ℕ) → 0 < period → modulo (placeIn left (q + k)) period ≡ (modulo (placeIn left q) period + k) % period
 modulo-on period left q k h =
@@ -75,6 +79,18 @@ modulo-on period left q k h =
 
 pub modulo-period : (period left q : ℕ) → 0 < period → modulo (placeIn left (q + period)) period ≡ modulo (placeIn left q) period
 modulo-period period left q h = modulo-on period left q period h ∙ add-mod-right (modulo (placeIn left q) period) period ∙ mod-eq-of-lt (modulo-low (placeIn left q) period h)
+
+-- a place further out in front: its remainder is a period less one more
+pub modulo-back : (period k : ℕ) → 0 < period → modulo (Before (k + 1)) period ≡ (modulo (Before k) period + (period - 1)) % period
+modulo-back period k h =
+    let one : modulo (placeIn (k + 2) 0) period ≡ modulo (Before (k + 1)) period = let e : k + 2 - 1 - 0 ≡ k + 1 = omega arith in simp (lt-ltb 0 (k + 2) (omega arith), e) in
+    let two : modulo (placeIn (k + 2) 1) period ≡ modulo (Before k) period = let e : k + 2 - 1 - 1 ≡ k = omega arith in simp (lt-ltb 1 (k + 2) (omega arith), e) in
+    let e : 0 + period ≡ 1 + (period - 1) = omega arith in
+    sym one
+    ∙ sym (modulo-period period (k + 2) 0 h)
+    ∙ ap (λ (j : ℕ). modulo (placeIn (k + 2) j) period) e
+    ∙ modulo-on period (k + 2) 1 (period - 1) h
+    ∙ ap (λ (r : ℕ). (r + (period - 1)) % period) two
 
 -- there and back is a place of the line
 pub turned-low : (n turn top q : ℕ) → turn ≤ n → top < turn + n → turned turn top q < n

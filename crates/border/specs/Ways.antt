@@ -4,7 +4,7 @@ use mathlib.Core.Bool.{Bool, true, false, cond}
 use mathlib.Core.List.{List, _++_}
 use mathlib.Core.Logic.{_≢_, _⊎_, ⊎-elim, inl, inr}
 use Prim.Native.Nat.{ℕ, _+_, _-_, _*_, _%_, _≤_, _<_}
-use native.Mathlib.Nat.{mod-self, mod-eq-of-lt, le-refl}
+use native.Mathlib.Nat.{mod-self, mod-eq-of-lt, add-mod-right, le-refl}
 use native.Mathlib.Omega.{arith}
 use borrow.Author.Tests.{lt-ltb, le-ltb, eq-eqb, ne-eqb, eqb-true, eqb-false}
 use lib.Dec.{eqb}
@@ -12,7 +12,7 @@ use lib.ListN.{length, getD, take, drop, length-drop}
 use lib.Seq.{length-take-le}
 use lib.Ieee.{Float, nan}
 use Rattle.numbers.specs.Words.{longest, plusZero, at, written, placed}
-use Rattle.numbers.specs.Write.{length-placed, placed-start, placed-end}
+use Rattle.numbers.specs.Write.{length-placed, placed-start, placed-end, getD-placed-before, getD-placed-behind}
 use Rattle.numbers.specs.Places.{getD-any, getD-part, tab-same}
 use Rattle.border.specs.declared.Border.{Border}
 use Rattle.border.specs.declared.Border.the-variants.{Clamp, Wrap, Reflect, Zeros, Reflect101, Mirror, Mirror101}
@@ -21,7 +21,7 @@ use Rattle.border.specs.declared.rule.Place.the-variants.{Before, At}
 use Rattle.border.specs.declared.rule.Way.{Way}
 use Rattle.border.specs.declared.rule.Way.the-variants.{Ends, Nothing, Laps}
 use Rattle.border.specs.Rule.{numberOf, Sample, nearest, modulo, turned, folded101, outside, source, placeIn, valueOf, padded}
-use Rattle.border.specs.Reach.{along, periodOf, lapsOf, Lapped, Goes, Paddable, Fillable, filled, lapAt}
+use Rattle.border.specs.Reach.{along, periodOf, lapsOf, Lapped, Goes, Long, Walkable, Paddable, Fillable, filled, lapAt}
 use Rattle.border.specs.Rules.{modulo-low, turned-low, past-in, source-past}
 use Rattle.border.specs.Mirrors.{mirror-in, mirror101-reflect101}
 use Rattle.border.specs.Pads.{fill-reach, fill-right, ends}
@@ -87,6 +87,14 @@ module _ (n : ℕ) (some : 0 < n) (few : n ≤ longest) where
       other : Mirror101 ≡ Reflect101 → ⊥
       other e = let q : numberOf Mirror101 ≡ numberOf Reflect101 = ap numberOf e in omega arith
 
+-- laps that go over every sample are no shorter than their line
+pub laps-long : (n turn back once : ℕ) → 0 < n → (n ≢ 1 → n ≤ periodOf turn back once) → (w : Way) → w ≡ lapsOf n turn back once → Long w n
+laps-long n turn back once some long w e = subst (λ (v : Way). Long v n) (sym e) (go (eqb n 1) (eqb-false n 1))
+  where
+    go : (t : Bool) → (t ≡ false → n ≢ 1) → Long (cond t Ends (Laps (periodOf turn back once) turn (periodOf turn back once + once - 1))) n
+    go true z = some
+    go false z = long (z refl)
+
 -- a border by its name
 pub goes-by : {b b′ : Border} {n : ℕ} {w : Way} → b ≡ b′ → Goes b′ n w → Goes b n w
 goes-by {n = n} {w = w} e g = subst (λ (x : Border). Goes x n w) (sym e) g
@@ -97,6 +105,30 @@ lap-on q period e h = sym (mod-eq-of-lt (omega arith))
 
 pub lap-anew : (q period : ℕ) → q + 1 ≡ period → 0 ≡ (q + 1) % period
 lap-anew q period e = sym (ap (λ (k : ℕ). k % period) e ∙ mod-self period)
+
+-- and back, where place 0 has the last in front of it
+pub lap-back : (q period : ℕ) → q ≢ 0 → q < period → q - 1 ≡ (q + (period - 1)) % period
+lap-back q period e h = let k : q - 1 + period ≡ q + (period - 1) = omega arith in sym (mod-eq-of-lt (omega arith)) ∙ sym (add-mod-right (q - 1) period) ∙ ap (λ (j : ℕ). j % period) k
+
+pub lap-end : (q period : ℕ) → q ≡ 0 → q < period → period - 1 ≡ (q + (period - 1)) % period
+lap-end q period e h = let k : period - 1 ≡ q + (period - 1) = omega arith in sym (mod-eq-of-lt (omega arith)) ∙ ap (λ (j : ℕ). j % period) k
+
+-- ---- a walk
+module _ {n left from count period turn top : ℕ} (x : List Float) (w : Walkable n (length x) left from count period turn top) where
+  -- each place of a lap is a sample, and can be put where the walk goes
+  pub can-put : (len to q : ℕ) → len ≡ length x → to < from + count → q < period → (to < len) × (left + n ≤ len) × (q ≤ top) × (turned turn top q < n)
+  can-put len to q long in-it low =
+      (omega (arith, long, w .room), omega (arith, long, w .line), omega (arith, w .laps .whole), turned-low n turn top q (w .laps .there) (w .laps .back))
+
+  -- a sample is as it was, since the walk goes apart from them, and the place of the lap tells it
+  pub lap-put : {s : List Float} (g : ℕ → Float) (a k q to : ℕ) → s ≡ placed g a k x → from ≤ a → a + k ≤ from + count → q ≡ modulo (placeIn left to) period
+      → at s (left + turned turn top q) ≡ lapAt left period turn top x to
+  lap-put g a k q to e h l m =
+      let p = left + turned turn top q in
+      let low-in : turned turn top q < n = turned-low n turn top q (w .laps .there) (w .laps .back) in
+      ap (λ (y : List Float). at y p) e
+      ∙ ⊎-elim (λ u. getD-placed-behind g a k x p nan (omega (arith, w .room)) (omega arith)) (λ u. getD-placed-before g a k x p nan (omega (arith, w .room)) (omega arith)) (w .apart)
+      ∙ ap (λ (j : ℕ). at x (left + turned turn top j)) m
 
 -- ---- places filled that way are those of the padded line
 -- which are none of the line itself

@@ -1,15 +1,14 @@
 // Padded lines, written out at the front of a lent buffer or within it. Work for entries to share: it asks for sizes.
 ghost use mathlib.Core.Path.{_≡_};
-ghost use Prim.Native.Nat.{_+_, _≤_};
-ghost use lib.ListN.{length, take, drop};
+ghost use Prim.Native.Nat.{_+_, _<_, _≤_};
+ghost use lib.ListN.{length, take, drop, set};
 ghost use Rattle.numbers.specs.Words.{plusZero, at, written, placed, replaced};
-ghost use Rattle.border.specs.Rule.{padded};
+ghost use Rattle.border.specs.Rule.{turned, padded};
 ghost use Rattle.border.specs.Reach.{Walkable, Paddable, Movable, PaddableWithin, lapAt};
 use crate::Border;
 use crate::rule::Way;
-use crate::rule::modulo;
 use crate::rule::next;
-use crate::rule::place_in;
+use crate::rule::prior;
 use crate::rule::turned;
 use crate::rule::way_of;
 use numbers::copying::copy_line;
@@ -26,30 +25,50 @@ fn repeat(s: &mut [f64], x: f64, from: usize, count: usize)
     }
 }
 
-// The samples that are in place from `left` on, lap by lap, each place as its distance from them has it.
-fn walk(
+// Of n samples that are in place from `left` on, the one that place q of their laps has goes to place `to`.
+fn put(s: &mut [f64], to: usize, left: usize, n: usize, q: usize, turn: usize, top: usize)
+    requires { ⌜ (to < length (now s)) × (left + n ≤ length (now s)) × (q ≤ top) × (turned turn top q < n) ⌝ }
+    ensures { λ _. ⌜ now (s .exit) ≡ set (now (s .entry)) to (at (now (s .entry)) (left + turned turn top q)) ⌝ }
+{
+    let line = &s[left..left + n];
+    let x = line[turned(q, turn, top)];
+    s[to] = x;
+}
+
+// The places in front of the samples, lap by lap, from the nearest out.
+fn walk_front(s: &mut [f64], left: usize, n: usize, period: usize, turn: usize, top: usize)
+    requires { ⌜ Walkable n (length (now s)) left 0 left period turn top ⌝ }
+    ensures { λ _. ⌜ now (s .exit) ≡ replaced (lapAt left period turn top (now (s .entry))) 0 left (now (s .entry)) ⌝ }
+{
+    let mut q = period - 1;
+    let mut i = 0usize;
+    while i < left {
+        put(s, left - 1 - i, left, n, q, turn, top);
+        q = prior(q, period);
+        i += 1;
+    }
+}
+
+// The places behind the samples, lap by lap, from the nearest out.
+fn walk_behind(
     s: &mut [f64],
     left: usize,
     n: usize,
-    from: usize,
-    count: usize,
+    right: usize,
     period: usize,
     turn: usize,
     top: usize,
 )
-    requires { ⌜ Walkable n (length (now s)) left from count period turn top ⌝ }
-    ensures { λ _. ⌜ now (s .exit) ≡ replaced (lapAt left period turn top (now (s .entry))) from count (now (s .entry)) ⌝ }
+    requires { ⌜ Walkable n (length (now s)) left (left + n) right period turn top × (n ≤ period) ⌝ }
+    ensures { λ _. ⌜ now (s .exit) ≡ replaced (lapAt left period turn top (now (s .entry))) (left + n) right (now (s .entry)) ⌝ }
 {
-    if count == 0 {
-        return;
-    }
-    let mut q = modulo(place_in(left, from), period);
-    let mut i = 0usize;
-    while i < count {
-        let k = turned(q, turn, top);
-        s[from + i] = s[left + k];
+    let mut q = n - 1;
+    let mut p = left + n;
+    let end = p + right;
+    while p < end {
         q = next(q, period);
-        i += 1;
+        put(s, p, left, n, q, turn, top);
+        p += 1;
     }
 }
 
@@ -75,8 +94,8 @@ pub fn pad_ends(border: Border, s: &mut [f64], left: usize, n: usize, right: usi
             repeat(s, 0.0, end, right);
         }
         Way::Laps { period, turn, top } => {
-            walk(s, left, n, 0, left, period, turn, top);
-            walk(s, left, n, end, right, period, turn, top);
+            walk_front(s, left, n, period, turn, top);
+            walk_behind(s, left, n, right, period, turn, top);
         }
     }
 }

@@ -1,9 +1,9 @@
 // The border rule: how the samples of a line go on beyond it.
 ghost use mathlib.Core.Path.{_≡_};
-ghost use Prim.Native.Nat.{_+_, _%_, _<_, _≤_};
+ghost use Prim.Native.Nat.{_+_, _-_, _%_, _<_, _≤_};
 ghost use Rattle.numbers.specs.Words.{longest};
-ghost use Rattle.border.specs.Rule.{modulo, turned, placeIn};
-ghost use Rattle.border.specs.Reach.{Lap, Goes, lapsOf};
+ghost use Rattle.border.specs.Rule.{turned};
+ghost use Rattle.border.specs.Reach.{Lap, Goes, Long, lapsOf};
 use crate::Border;
 
 // A signed place, by its sign.
@@ -25,28 +25,6 @@ pub enum Way {
     },
 }
 
-// The remainder. Most places are near, and need none.
-fn rest(k: usize, n: usize) -> usize
-    requires { ⌜ 0 < n ⌝ }
-    ensures { λ r. ⌜ (r ≡ k % n) × (r < n) ⌝ }
-{
-    if k < n {
-        return k;
-    }
-    k % n
-}
-
-// The place modulo n, never negative.
-pub fn modulo(place: Place, n: usize) -> usize
-    requires { ⌜ 0 < n ⌝ }
-    ensures { λ r. ⌜ (r ≡ modulo place n) × (r < n) ⌝ }
-{
-    match place {
-        Place::Before(k) => n - 1 - rest(k, n),
-        Place::At(i) => rest(i, n),
-    }
-}
-
 // The place behind q in a lap.
 pub fn next(q: usize, period: usize) -> usize
     requires { ⌜ q < period ⌝ }
@@ -57,6 +35,17 @@ pub fn next(q: usize, period: usize) -> usize
         return 0;
     }
     r
+}
+
+// The place in front of q in a lap.
+pub fn prior(q: usize, period: usize) -> usize
+    requires { ⌜ q < period ⌝ }
+    ensures { λ r. ⌜ r ≡ (q + (period - 1)) % period ⌝ }
+{
+    if q == 0 {
+        return period - 1;
+    }
+    q - 1
 }
 
 // There and back: q below `turn`, top - q from there on.
@@ -89,7 +78,7 @@ fn laps(n: usize, turn: usize, back: usize, once: usize) -> Way
 // How a border goes on beyond n samples. As far as Reflect101 goes it is Mirror101.
 pub fn way_of(border: Border, n: usize) -> Way
     requires { ⌜ (0 < n) × (n ≤ longest) ⌝ }
-    ensures { λ r. ⌜ Goes border n r ⌝ }
+    ensures { λ r. ⌜ Goes border n r × Long r n ⌝ }
 {
     match border {
         Border::Clamp => Way::Ends,
@@ -100,14 +89,4 @@ pub fn way_of(border: Border, n: usize) -> Way
         Border::Mirror => laps(n, n, n, 0),
         Border::Mirror101 => laps(n, n, n, 1),
     }
-}
-
-// Place q of a line that has `left` places in front.
-pub fn place_in(left: usize, q: usize) -> Place
-    ensures { λ r. ⌜ r ≡ placeIn left q ⌝ }
-{
-    if q < left {
-        return Place::Before(left - 1 - q);
-    }
-    Place::At(q - left)
 }

@@ -6,10 +6,10 @@ use Prim.Native.Nat.{ℕ, zero, suc, _+_, _-_, _≤_, _<_}
 use native.Mathlib.Nat.{le-of-suc-le-suc, not-suc-le-zero}
 use native.Mathlib.Decide.{decLt}
 use native.Mathlib.Omega.{arith}
-use lib.ListN.{length, getD, take, drop, length-drop, length-take, List·getD-append}
-use lib.Seq.{ext-getD, length-take-le, getD-take, getD-drop, drop-drop, getD-append-add, take-at, drop-at}
+use lib.ListN.{length, getD, take, drop, set, length-drop, length-take, length-set, List·getD-append}
+use lib.Seq.{ext-getD, length-take-le, getD-take, getD-drop, getD-set-same, getD-set-other, drop-drop, getD-append-add, take-at, drop-at}
 use borrow.Rule.Slice.PartMut.{putMid, mid-len, same-len-mid}
-use Rattle.numbers.specs.Words.{tab, written, placed}
+use Rattle.numbers.specs.Words.{tab, written, placed, replaced}
 use Rattle.numbers.specs.Write.{length-tab, getD-tab, length-placed, drop-placed, getD-placed-before, getD-placed-behind, drop-written, take-written}
 
 module _ {A : Type 0} where
@@ -45,6 +45,34 @@ module _ {A : Type 0} where
           let t : s + i ≡ j = omega arith in
           ap (λ (k : ℕ). getD l k d) (sym t) ∙ q i (omega arith) ∙ sym (getD-placed-in g s n x i d h (omega arith)) ∙ ap (λ (k : ℕ). getD (placed g s n x) k d) t
       go j (no a) (no b) = r j (omega arith) ∙ sym (getD-placed-behind g s n x j d (omega arith) (omega arith))
+
+  -- a loop that writes the i places in front of e, from the last on: one more
+  pub replaced-front : (d : A) (g : ℕ → A) (e i : ℕ) (x : List A) {l : List A} {v : A} → i < e → e ≤ length x → l ≡ replaced g (e - i) i x → v ≡ g (e - 1 - i)
+      → set l (e - 1 - i) v ≡ replaced g (e - (i + 1)) (i + 1) x
+  replaced-front d g e i x {l} {v} low room q w =
+      is-placed d (λ k. g (e - (i + 1) + k)) (e - (i + 1)) (i + 1) x (set l (e - 1 - i) v) (omega arith)
+      (length-set l (e - 1 - i) v ∙ long)
+      (λ j h. getD-set-other l (e - 1 - i) j v d (λ u. absurd (omega arith)) ∙ was j ∙ getD-placed-before G (e - i) i x j d (omega arith) (omega arith))
+      (λ k h. go k h (decLt 0 k))
+      (λ j h. getD-set-other l (e - 1 - i) j v d (λ u. absurd (omega arith)) ∙ was j ∙ getD-placed-behind G (e - i) i x j d (omega arith) (omega arith))
+    where
+      G : ℕ → A
+      G k = g (e - i + k)
+
+      long : length l ≡ length x
+      long = ap length q ∙ length-placed G (e - i) i x (omega arith)
+
+      was : (j : ℕ) → getD l j d ≡ getD (placed G (e - i) i x) j d
+      was j = ap (λ (y : List A). getD y j d) q
+
+      go : (k : ℕ) → k < i + 1 → Dec (0 < k) → getD (set l (e - 1 - i) v) (e - (i + 1) + k) d ≡ g (e - (i + 1) + k)
+      go k h (yes b) =
+          let t : e - i + (k - 1) ≡ e - (i + 1) + k = omega arith in
+          getD-set-other l (e - 1 - i) (e - (i + 1) + k) v d (λ u. absurd (omega arith)) ∙ was (e - (i + 1) + k)
+          ∙ ap (λ (j : ℕ). getD (placed G (e - i) i x) j d) (sym t) ∙ getD-placed-in G (e - i) i x (k - 1) d (omega arith) (omega arith) ∙ ap g t
+      go k h (no b) =
+          let t : e - (i + 1) + k ≡ e - 1 - i = omega arith in
+          ap (λ (j : ℕ). getD (set l (e - 1 - i) v) j d) t ∙ getD-set-same l (e - 1 - i) v d (omega (arith, long)) ∙ w ∙ ap g (sym t)
 
   -- a part is as its places are
   pub part-ext : (d : A) (a n : ℕ) (l x : List A) → length l ≡ length x → ((j : ℕ) → a ≤ j → j < a + n → getD l j d ≡ getD x j d) → take n (drop a l) ≡ take n (drop a x)

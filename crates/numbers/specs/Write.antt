@@ -8,7 +8,7 @@ use lib.ListN.{length, getD, take, drop, set, length-append, length-drop, take-a
 use lib.Seq.{drop-cons, set-at, getD-at, take-at, drop-at, drop-length, append-snoc, ext-getD, length-take-le, getD-take, getD-drop}
 use mathlib.Core.Logic.{⊎-elim}
 use native.Mathlib.Nat.{eq-or-lt-of-le, le-of-suc-le-suc, zero-add, suc-add}
-use Rattle.numbers.specs.Words.{tab, written, placed, at}
+use Rattle.numbers.specs.Words.{tab, written, placed, replaced, at}
 
 module _ {A : Type 0} where
   pub length-tab : (g : ℕ → A) (n : ℕ) → length (tab g n) ≡ n
@@ -106,6 +106,14 @@ module _ {A : Type 0} where
 
   pub placed-end : (g : ℕ → A) (s i n : ℕ) (x : List A) {l : List A} → l ≡ placed g s i x → i ≤ n → n ≤ i → l ≡ placed g s n x
   placed-end g s i n x e h k = let q : i ≡ n = omega arith in rw (← q) e
+
+  -- one turn of a loop that goes by the places themselves
+  pub replaced-step : (g : ℕ → A) (s p : ℕ) (x : List A) {l : List A} {v : A} → s ≤ p → p < length x → l ≡ replaced g s (p - s) x → v ≡ g p
+      → set l p v ≡ replaced g s (p + 1 - s) x
+  replaced-step g s p x {l} {v} h k e q =
+      let t : s + (p - s) ≡ p = omega arith in
+      let u : p - s + 1 ≡ p + 1 - s = omega arith in
+      ap (λ (j : ℕ). set l j v) (sym t) ∙ placed-step (λ j. g (s + j)) s (p - s) x (omega arith) e (q ∙ ap g (sym t)) ∙ ap (λ (j : ℕ). replaced g s j x) u
 
   -- what lies before and behind stays, and what lies within is g's
   pub take-placed : (g : ℕ → A) (s n : ℕ) (x : List A) → s ≤ length x → take s (placed g s n x) ≡ take s x

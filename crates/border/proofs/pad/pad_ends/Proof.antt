@@ -7,7 +7,8 @@ use mathlib.Core.Logic.{inl, inr}
 use mathlib.Core.Path.{_∙_, subst}
 use Prim.Native.Nat.{_+_}
 use Rattle.numbers.specs.Tests.{literal-zero}
-use Rattle.border.specs.Reach.{Goes}
+use Rattle.border.specs.declared.rule.Way.{Way}
+use Rattle.border.specs.Reach.{Goes, Long}
 use Rattle.border.specs.Pads.{fill-left}
 use Rattle.border.specs.Ways.{first-filled, last-filled, zeros-filled, laps-filled, both-sides, no-sides}
 use borrow.Author.Needs.{needs}
@@ -62,15 +63,17 @@ repeat-requires-4 c κs = search needs
 enum-known-way : tie.Need-enum-known-way
 enum-known-way c = search needs
 
-walk-requires : tie.Need-walk-requires
-walk-requires c κs = let t = c .before .before in let w = t .before .before in let s = w .before .before .before in let a = s .args in
-    let goes = subst (Goes (a .border) (a .n)) (t .way .given .1) (w .way-of .ensures) in
+walk-front-requires : tie.Need-walk-front-requires
+walk-front-requires c κs = let t = c .before .before in let w = t .before .before in let s = w .before .before .before in let a = s .args in
+    let goes = subst (Goes (a .border) (a .n)) (t .way .given .1) (w .way-of .ensures .0) in
     record { laps = goes .sound; line = omega (arith, s .pre .1); room = omega (arith, s .pre .1); apart = inl (omega arith) }
 
-walk-requires-2 : tie.Need-walk-requires-2
-walk-requires-2 c κs = let r1 = c .before .before .before in let t = r1 .before .before .before in let w = t .before .before in let s = w .before .before .before in let a = s .args in
-    let goes = subst (Goes (a .border) (a .n)) (t .way .given .1) (w .way-of .ensures) in
-    record { laps = goes .sound; line = omega (arith, s .pre .1, r1 .walk .kept); room = omega (arith, s .pre .1, r1 .walk .kept); apart = inr (le-refl (a .left + a .n)) }
+walk-behind-requires : tie.Need-walk-behind-requires
+walk-behind-requires c κs = let r1 = c .before .before .before in let t = r1 .before .before .before in let w = t .before .before in let s = w .before .before .before in let a = s .args in
+    let goes = subst (Goes (a .border) (a .n)) (t .way .given .1) (w .way-of .ensures .0) in (
+      record { laps = goes .sound; line = omega (arith, s .pre .1, r1 .walk-front .kept); room = omega (arith, s .pre .1, r1 .walk-front .kept); apart = inr (le-refl (a .left + a .n)) },
+      subst (λ (v : Way). Long v (a .n)) (t .way .given .1) (w .way-of .ensures .1),
+    )
 
 same-length : tie.Need-same-length
 same-length c = search needs
@@ -78,7 +81,7 @@ same-length c = search needs
 returns-2 : tie.Need-returns-2
 returns-2 c = let r2 = c .before .before in let r1 = r2 .before .before .before .before .before in let t = r1 .before .before .before in let w = t .before .before in let s = w .before .before .before in let a = s .args in
     let x = now (a .s) in
-    let goes = subst (Goes (a .border) (a .n)) (t .enum-told .given .1) (w .way-of .ensures) in
+    let goes = subst (Goes (a .border) (a .n)) (t .enum-told .given .1) (w .way-of .ensures .0) in
     both-sides x (s .pre .0) (s .pre .1)
     (r1 .repeat .ensures ∙ first-filled x goes (fill-left _ (s .pre .0) (s .pre .1)) (le-refl (a .left)))
     (λ f. r2 .repeat2 .ensures ∙ last-filled _ goes f)
@@ -89,7 +92,7 @@ same-length-2 c = search needs
 returns-3 : tie.Need-returns-3
 returns-3 c = let r2 = c .before .before in let r1 = r2 .before .before .before .before in let t = r1 .before .before in let w = t .before .before in let s = w .before .before .before in let a = s .args in
     let x = now (a .s) in
-    let goes = subst (Goes (a .border) (a .n)) (t .enum-told2 .given .1) (w .way-of .ensures) in
+    let goes = subst (Goes (a .border) (a .n)) (t .enum-told2 .given .1) (w .way-of .ensures .0) in
     both-sides x (s .pre .0) (s .pre .1)
     (r1 .repeat3 .ensures ∙ zeros-filled x (literal-zero binary64) goes (fill-left _ (s .pre .0) (s .pre .1)))
     (λ f. r2 .repeat4 .ensures ∙ zeros-filled _ (literal-zero binary64) goes f)
@@ -100,10 +103,10 @@ same-length-3 c = search needs
 returns-4 : tie.Need-returns-4
 returns-4 c = let r2 = c .before .before in let r1 = r2 .before .before .before .before in let t = r1 .before .before .before in let w = t .before .before in let s = w .before .before .before in let a = s .args in
     let x = now (a .s) in
-    let goes = subst (Goes (a .border) (a .n)) (t .way .given .1) (w .way-of .ensures) in
+    let goes = subst (Goes (a .border) (a .n)) (t .way .given .1) (w .way-of .ensures .0) in
     both-sides x (s .pre .0) (s .pre .1)
-    (r1 .walk .ensures ∙ laps-filled x goes (fill-left _ (s .pre .0) (s .pre .1)))
-    (λ f. r2 .walk2 .ensures ∙ laps-filled _ goes f)
+    (r1 .walk-front .ensures ∙ laps-filled x goes (fill-left _ (s .pre .0) (s .pre .1)))
+    (λ f. r2 .walk-behind .ensures ∙ laps-filled _ goes f)
 
 pub pad-ends-spec : {M : Type 1} → statement M
 pad-ends-spec =
@@ -125,8 +128,8 @@ pad-ends-spec =
     repeat-requires-3
     repeat-requires-4
     enum-known-way
-    walk-requires
-    walk-requires-2
+    walk-front-requires
+    walk-behind-requires
     same-length
     returns-2
     same-length-2

@@ -8,10 +8,10 @@ add-r : tie.Need-add-r
 add-r c = search needs
 
 returns : tie.Need-returns
-returns c = let a = c .before .args in lap-anew (a .q) (a .period) (c .if1 .taken)
+returns c = let s = c .before in lap-anew (s .args .q) (s .args .period) (search needs)
 
 returns-2 : tie.Need-returns-2
-returns-2 c = let s = c .before in lap-on (s .args .q) (s .args .period) (c .if1 .left) (s .pre)
+returns-2 c = let s = c .before in lap-on (s .args .q) (s .args .period) (search needs) (s .pre)
 
 pub next-spec : {M : Type 1} → statement M
 next-spec = tie.close (tie.spec add-r returns returns-2)
