@@ -62,7 +62,8 @@ pub fn analyse(
 {
     let f = bank.taps;
     let border = bank.border;
-    let low = &bank.low;
-    let high = &bank.high;
-    lists::analyse(low, high, f, border, line, approx, detail, scratch)
+    // lent in place, the whole bank would be copied
+    let low = bank.low;
+    let high = bank.high;
+    lists::analyse(&low, &high, f, border, line, approx, detail, scratch)
 }

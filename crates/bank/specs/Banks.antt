@@ -26,6 +26,10 @@ valuesOf Taps = []
 abbrev pub answerOf : ℕ → ℕ → Making
 answerOf low high = cond (badTaps low || not (eqb high low)) Taps Done
 
+-- the same of four lists, of which any may be the wrong one
+abbrev pub answerOfFour : ℕ → ℕ → ℕ → ℕ → Making
+answerOfFour low high sl sh = cond (badTaps low || not (eqb high low) || not (eqb sl low) || not (eqb sh low)) Taps Done
+
 -- how many taps lists of these lengths have in each; none where they make no bank, so that the tests refuse them by 12
 abbrev pub tapsOf : ℕ → ℕ → ℕ
 tapsOf low high = whenDone (numberOf (answerOf low high)) low 0
@@ -49,17 +53,25 @@ signed j x = alternate neg j x
 abbrev pub mirror : List Float → ℕ → Float
 mirror low j = mirrorOf neg (at low) (length low) j
 
--- a bank by its fields
-abbrev pub heldIn : List Float → List Float → ℕ → Border → Bank
-heldIn l h f b = record { low = l; high = h; taps = f; border = b }
+-- a bank by its fields: the pair of the way there, that of the way back, how many taps, the border
+abbrev pub heldIn : List Float → List Float → List Float → List Float → ℕ → Border → Bank
+heldIn l h sl sh f b = record { low = l; high = h; lowback = sl; highback = sh; taps = f; border = b }
 
--- the bank of two lists, the high one told by its places; zeros fill the rest of either array
+-- the first f taps in an array; zeros fill the rest
+abbrev pub arrayOf : ℕ → (ℕ → Float) → List Float
+arrayOf f tap = written tap f zeros
+
+-- the bank of four lists, told by their places
+abbrev pub bankOfFour : ℕ → (ℕ → Float) → (ℕ → Float) → (ℕ → Float) → (ℕ → Float) → Border → Bank
+bankOfFour f l h sl sh b = heldIn (arrayOf f l) (arrayOf f h) (arrayOf f sl) (arrayOf f sh) f b
+
+-- the bank of two lists, the high one told by its places: the same pair twice
 abbrev pub bankOf : List Float → (ℕ → Float) → Border → Bank
-bankOf l h b = heldIn (written (at l) (length l) zeros) (written h (length l) zeros) (length l) b
+bankOf l h b = bankOfFour (length l) (at l) h (at l) h b
 
 -- the bank beside a refusal: no taps
 abbrev pub noBank : Border → Bank
-noBank b = heldIn zeros zeros 0 b
+noBank b = heldIn zeros zeros zeros zeros 0 b
 
 pub record BankMade (low high : List Float) (b : Border) (r : Making) (bank : Bank) : Type 0 where
   pub answer : r ≡ answerOf (length low) (length high)
@@ -68,6 +80,10 @@ pub record BankMade (low high : List Float) (b : Border) (r : Making) (bank : Ba
 pub record MirrorMade (low : List Float) (b : Border) (r : Making) (bank : Bank) : Type 0 where
   pub answer : r ≡ answerOf (length low) (length low)
   pub made : bank ≡ whenDone (numberOf r) (bankOf low (mirror low) b) (noBank b)
+
+pub record PairsMade (low high sl sh : List Float) (b : Border) (r : Making) (bank : Bank) : Type 0 where
+  pub answer : r ≡ answerOfFour (length low) (length high) (length sl) (length sh)
+  pub made : bank ≡ whenDone (numberOf r) (bankOfFour (length low) (at low) (at high) (at sl) (at sh) b) (noBank b)
 
 -- the high taps by themselves, into a list that has to be as long as the low one
 pub record Mirrored (low high : List Float) (r : Making) (high′ : List Float) : Type 0 where

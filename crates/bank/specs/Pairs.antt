@@ -1,20 +1,20 @@
--- Laws of two tap lists: those that have taps are of one length and make a bank, so that their count may be told beside them; and the mirror rule's high taps are the front of the array that holds them.
+-- Laws of two tap lists, and of four: those that have taps are of one length and make a bank, so that their count may be told beside them; and the mirror rule's high taps are the front of the array that holds them.
 use mathlib.Core.Path.{_≡_, refl, sym, ap, _∙_}
 use mathlib.Core.Bool.{Bool, true, false, cond, not, _||_}
 use mathlib.Core.List.{List}
 use Prim.Native.Nat.{ℕ, _≤_}
 use native.Mathlib.Omega.{arith}
 use borrow.Author.Tests.{eqb-true, not-false}
-use lib.Dec.{eqb}
+use lib.Dec.{eqb, lit<}
 use lib.ListN.{length, take, length-replicate}
 use lib.Ieee.{Float, nan}
 use Rattle.numbers.specs.Words.{plusZero, at, tab, written, placed, whenDone}
 use Rattle.numbers.specs.Write.{length-tab, length-written, getD-tab, take-written, written-all}
 use Rattle.numbers.specs.Places.{placed-front, tab-same}
-use Rattle.numbers.specs.Tests.{neither}
+use Rattle.numbers.specs.Tests.{neither, passed}
 use Rattle.bank.specs.declared.making.Making.the-variants.{Taps, Done}
 use Rattle.bank.specs.Lengths.{badTaps, GoodTaps, Counted}
-use Rattle.bank.specs.Banks.{numberOf, answerOf, tapsOf, zeros, mirror, Mirrored}
+use Rattle.bank.specs.Banks.{numberOf, answerOf, answerOfFour, tapsOf, zeros, mirror, Mirrored}
 use Rattle.bank.specs.Tested.{good-taps}
 
 -- lists that have taps are of one length, which is how many they have, and make a bank
@@ -56,6 +56,20 @@ counted-lists low high taps g =
     let p = paired low high (λ z. absurd (omega (arith, taps, g .two))) in
     let e = taps ∙ p .count in
     record { lows = omega (arith, e); highs = omega (arith, e, p .both) }
+
+-- four lists that make a bank are of one length
+pub record Alike (low high lowback highback : ℕ) : Type 0 where
+  pub good : GoodTaps low
+  pub highs : high ≡ low
+  pub lowbacks : lowback ≡ low
+  pub highbacks : highback ≡ low
+
+pub alike : (low high lowback highback : ℕ) → answerOfFour low high lowback highback ≡ Done → Alike low high lowback highback
+alike low high lowback highback e =
+    let p = neither (badTaps low || not (eqb high low) || not (eqb lowback low)) (not (eqb highback low)) (passed numberOf (badTaps low || not (eqb high low) || not (eqb lowback low) || not (eqb highback low)) e (lit< tt) refl .0) in
+    let q = neither (badTaps low || not (eqb high low)) (not (eqb lowback low)) (p .0) in
+    let s = neither (badTaps low) (not (eqb high low)) (q .0) in
+    record { good = good-taps low (s .0); highs = eqb-true high low (not-false _ (s .1)); lowbacks = eqb-true lowback low (not-false _ (q .1)); highbacks = eqb-true highback low (not-false _ (p .1)) }
 
 -- ---- the mirror rule
 module _ (low high : List Float) {f : ℕ} (taps : f ≡ tapsOf (length low) (length high)) where

@@ -104,11 +104,10 @@ right-rest n f g = omega (arith, left-pad n f g, g .two)
 pub refused-bank : {b : Border} {r : Making} {bank : Bank} (new : Bank) → r ≡ making.Taps → bank ≡ Banks.noBank b → bank ≡ whenDone (Banks.numberOf r) new (Banks.noBank b)
 refused-bank {b} new e q = q ∙ sym (ap (λ (k : Making). whenDone (Banks.numberOf k) new (Banks.noBank b)) e)
 
-pub made-bank : {b : Border} {r : Making} {bank : Bank} {l h l′ h′ : List Float} {f : ℕ} → r ≡ making.Done → bank ≡ Banks.heldIn l h f b → l ≡ l′ → h ≡ h′
-    → bank ≡ whenDone (Banks.numberOf r) (Banks.heldIn l′ h′ f b) (Banks.noBank b)
-made-bank {b} {r} {bank} {l} {h} {l′} {h′} {f} e q p s =
-    q ∙ ap (λ (x : List Float). Banks.heldIn x h f b) p ∙ ap (λ (x : List Float). Banks.heldIn l′ x f b) s
-    ∙ sym (ap (λ (k : Making). whenDone (Banks.numberOf k) (Banks.heldIn l′ h′ f b) (Banks.noBank b)) e)
+pub made-bank : {b : Border} {r : Making} {bank : Bank} {l h sl sh l′ h′ sl′ sh′ : List Float} {f : ℕ}
+    → r ≡ making.Done → bank ≡ Banks.heldIn l h sl sh f b → l ≡ l′ → h ≡ h′ → sl ≡ sl′ → sh ≡ sh′
+    → bank ≡ whenDone (Banks.numberOf r) (Banks.heldIn l′ h′ sl′ sh′ f b) (Banks.noBank b)
+made-bank e q l h sl sh = q ∙ rw (e, l, h, sl, sh) refl
 
 -- neither answer carries anything
 pub making-bare : (r : Making) → Banks.valuesOf r ≡ []

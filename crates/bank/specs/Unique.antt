@@ -7,7 +7,7 @@ use Rattle.border.specs.declared.Border.{Border}
 use Rattle.bank.specs.declared.Bank.{Bank}
 use Rattle.bank.specs.declared.making.Making.{Making}
 use Rattle.bank.specs.declared.sizes.Size.{Size}
-use Rattle.bank.specs.Banks.{BankMade, MirrorMade, Mirrored}
+use Rattle.bank.specs.Banks.{BankMade, MirrorMade, PairsMade, Mirrored}
 use Rattle.bank.specs.Sizes.{BandSized, LineSized, ScratchSized}
 
 pub unique-bank : {low high : List Float} {b : Border} {r r′ : Making} {bank bank′ : Bank}
@@ -17,6 +17,10 @@ unique-bank p q = let e = p .answer ∙ sym (q .answer) in (e, (cc))
 pub unique-mirrored : {low : List Float} {b : Border} {r r′ : Making} {bank bank′ : Bank}
     → MirrorMade low b r bank → MirrorMade low b r′ bank′ → (r ≡ r′) × (bank ≡ bank′)
 unique-mirrored p q = let e = p .answer ∙ sym (q .answer) in (e, (cc))
+
+pub unique-two-pairs : {low high sl sh : List Float} {b : Border} {r r′ : Making} {bank bank′ : Bank}
+    → PairsMade low high sl sh b r bank → PairsMade low high sl sh b r′ bank′ → (r ≡ r′) × (bank ≡ bank′)
+unique-two-pairs p q = let e = p .answer ∙ sym (q .answer) in (e, (cc))
 
 pub unique-mirror : {low high : List Float} {r r′ : Making} {h h′ : List Float} → Mirrored low high r h → Mirrored low high r′ h′ → (r ≡ r′) × (h ≡ h′)
 unique-mirror p q = let e = p .answer ∙ sym (q .answer) in (e, (cc))

@@ -7,10 +7,12 @@ pub mod work;
 
 use border::Border;
 
-// Both tap lists, `taps` of each array in use, and the border.
+// Both tap lists of the way there and both of the way back, `taps` of each array in use, and the border.
 pub struct Bank {
     pub low: [f64; 64],
     pub high: [f64; 64],
+    pub lowback: [f64; 64],
+    pub highback: [f64; 64],
     pub taps: usize,
     pub border: Border,
 }

@@ -1,6 +1,6 @@
 // Making a bank.
 ghost use mathlib.Core.Path.{_≡_};
-ghost use Rattle.bank.specs.Banks.{heldIn, noBank, BankMade, MirrorMade};
+ghost use Rattle.bank.specs.Banks.{answerOfFour, heldIn, noBank, BankMade, MirrorMade, PairsMade};
 use crate::Bank;
 use crate::sizes::bad_taps;
 use crate::work::held;
@@ -18,14 +18,23 @@ pub struct Made {
     pub bank: Bank,
 }
 
-fn done(low: [f64; 64], high: [f64; 64], taps: usize, border: Border) -> Made
-    ensures { λ r. ⌜ (r .answer ≡ Making.Done) × (r .bank ≡ heldIn low high taps border) ⌝ }
+fn done(
+    low: [f64; 64],
+    high: [f64; 64],
+    lowback: [f64; 64],
+    highback: [f64; 64],
+    taps: usize,
+    border: Border,
+) -> Made
+    ensures { λ r. ⌜ (r .answer ≡ Making.Done) × (r .bank ≡ heldIn low high lowback highback taps border) ⌝ }
 {
     Made {
         answer: Making::Done,
         bank: Bank {
             low,
             high,
+            lowback,
+            highback,
             taps,
             border,
         },
@@ -40,6 +49,8 @@ fn refused(border: Border) -> Made
         bank: Bank {
             low: [0.0f64; 64],
             high: [0.0f64; 64],
+            lowback: [0.0f64; 64],
+            highback: [0.0f64; 64],
             taps: 0,
             border,
         },
@@ -58,7 +69,7 @@ pub fn bank(low: &[f64], high: &[f64], border: Border) -> Made
     }
     let l = held(low);
     let h = held(high);
-    done(l, h, f, border)
+    done(l, h, l, h, f, border)
 }
 
 // A bank whose high taps follow from the low ones.
@@ -71,5 +82,45 @@ pub fn mirrored(low: &[f64], border: Border) -> Made
     }
     let l = held(low);
     let m = low_pass_to_high(low);
-    done(l, m, f, border)
+    done(l, m, l, m, f, border)
+}
+
+// Whether four lists make a bank, by their lengths alone.
+pub fn pairs_answer(low: usize, high: usize, lowback: usize, highback: usize) -> Making
+    ensures { λ r. ⌜ r ≡ answerOfFour low high lowback highback ⌝ }
+{
+    if bad_taps(low) {
+        return Making::Taps;
+    }
+    if high != low {
+        return Making::Taps;
+    }
+    if lowback != low {
+        return Making::Taps;
+    }
+    if highback != low {
+        return Making::Taps;
+    }
+    Making::Done
+}
+
+// A bank whose way back has a pair of its own.
+pub fn two_pairs(
+    low: &[f64],
+    high: &[f64],
+    lowback: &[f64],
+    highback: &[f64],
+    border: Border,
+) -> Made
+    ensures { λ r. ⌜ PairsMade (now (low .entry)) (now (high .entry)) (now (lowback .entry)) (now (highback .entry)) border (r .answer) (r .bank) ⌝ }
+{
+    let answer = pairs_answer(low.len(), high.len(), lowback.len(), highback.len());
+    let Making::Done = answer else {
+        return refused(border);
+    };
+    let l = held(low);
+    let h = held(high);
+    let sl = held(lowback);
+    let sh = held(highback);
+    done(l, h, sl, sh, low.len(), border)
 }

@@ -1,8 +1,9 @@
 // The entries that take a bank, for the bench to count: a bank is made, and its entry called once or twice. The second call is what an entry costs.
 // A large function that is called in two places is not inlined, so both are calls that know nothing of the bank.
+// The other way has the same taps exchanged, so that an entry which read its pair would give other numbers.
 use analysis::Analysis;
 use analysis::analyse;
-use bank::making::bank;
+use bank::making::two_pairs;
 use synthesis::Synthesis;
 use synthesis::synthesise;
 use telling::borders::border_of;
@@ -19,7 +20,7 @@ pub extern "C" fn banked_analyse(
     detail: &mut [f64],
     scratch: &mut [f64],
 ) -> u64 {
-    let made = bank(low, high, border_of(border));
+    let made = two_pairs(low, high, high, low, border_of(border));
     let held = made.bank;
     let first = analyse(held, line, approx, detail, scratch);
     let Analysis::Done = first else {
@@ -45,7 +46,7 @@ pub extern "C" fn banked_synthesise(
     detail: &[f64],
     out: &mut [f64],
 ) -> u64 {
-    let made = bank(low, high, border_of(border));
+    let made = two_pairs(high, low, low, high, border_of(border));
     let held = made.bank;
     let first = synthesise(held, approx, detail, out);
     let Synthesis::Done = first else {

@@ -6,14 +6,14 @@ use lib.ListN.{length}
 use lib.IntN.{ℤ}
 use lib.Ieee.{Float, binary64}
 use Rattle.numbers.specs.Words.{cleared, whenDone}
-use Rattle.bank.specs.declared.Bank.{Bank}
+use Rattle.border.specs.declared.Border.{Border}
 use Rattle.bank.specs.Lengths.{pairs, paddedLength, lineLength}
 use Rattle.analysis.specs.Analyses as Analyses
 use Rattle.analysis.specs.Lines.{band, paddedInto}
 use Rattle.synthesis.specs.Syntheses as Syntheses
 use Rattle.exact.specs.declared.Back.{Back}
 use Rattle.exact.specs.declared.Back.the-variants.{Done, Analysis, Synthesis}
-use Rattle.exact.specs.Restoring.{squares, Premises, thereAndBack, Restored}
+use Rattle.exact.specs.Restoring.{squares, Premises, PairPremises, thereAndBack, Restored}
 
 -- the number of an answer, and the values that it carries (RULES, Numbers): those of the way that was refused
 abbrev pub numberOf : Back → ℕ
@@ -33,10 +33,6 @@ answerOf f n a d s o =
     let back = Syntheses.answerOf f a d o in
     whenDone (Analyses.numberOf there) (whenDone (Syntheses.numberOf back) Done (Synthesis back)) (Analysis there)
 
--- what the entry makes of its output, which it clears
-abbrev pub backFrom : Bank → List Float → ℕ → List Float
-backFrom bank line o = thereAndBack binary64 (bank .taps) (bank .low) (bank .high) (bank .low) (bank .high) (bank .border) line (cleared o)
-
 -- buffers of the ruled lengths for n samples and f taps
 pub record Ruled (n f a d s o : ℕ) : Type 0 where
   pub approxed : a ≡ pairs n f
@@ -44,13 +40,18 @@ pub record Ruled (n f a d s o : ℕ) : Type 0 where
   pub room : paddedLength n f ≤ s
   pub placed : o ≡ lineLength (pairs n f) f
 
-pub record Returned (bank : Bank) (line approx detail scratch out : List Float) (r : Back) (approx′ detail′ scratch′ out′ : List Float) : Type 0 where
-  pub answer : r ≡ answerOf (bank .taps) (length line) (length approx) (length detail) (length scratch) (length out)
-  pub approxes : approx′ ≡ whenDone (numberOf r) (band binary64 (bank .low) (bank .taps) (bank .border) line) approx
-  pub details : detail′ ≡ whenDone (numberOf r) (band binary64 (bank .high) (bank .taps) (bank .border) line) detail
-  pub scratched : scratch′ ≡ whenDone (numberOf r) (paddedInto (bank .taps) (bank .border) line scratch) scratch
-  pub joined : out′ ≡ whenDone (numberOf r) (backFrom bank line (length out)) out
-  -- whatever meets the premises is taken, and comes back exactly
-  pub exact : (z v : List ℤ) (A : ℕ) → Premises binary64 (bank .taps) (bank .low) (bank .high) line z v A
-      → Ruled (length line) (bank .taps) (length approx) (length detail) (length scratch) (length out)
-      → (r ≡ Done) × Restored (bank .border) (squares z) v out′
+-- by f taps of al and ah there, of sl and sh back, into an output that is cleared
+pub record Returned (al ah sl sh : List Float) (f : ℕ) (b : Border) (line approx detail scratch out : List Float) (r : Back) (approx′ detail′ scratch′ out′ : List Float) : Type 0 where
+  pub answer : r ≡ answerOf f (length line) (length approx) (length detail) (length scratch) (length out)
+  pub approxes : approx′ ≡ whenDone (numberOf r) (band binary64 al f b line) approx
+  pub details : detail′ ≡ whenDone (numberOf r) (band binary64 ah f b line) detail
+  pub scratched : scratch′ ≡ whenDone (numberOf r) (paddedInto f b line scratch) scratch
+  pub joined : out′ ≡ whenDone (numberOf r) (thereAndBack binary64 f al ah sl sh b line (cleared (length out))) out
+  -- whatever meets the premises is taken, and comes back exactly: by the same pair both ways
+  pub exact : sl ≡ al → sh ≡ ah → (z v : List ℤ) (A : ℕ) → Premises binary64 f al ah line z v A
+      → Ruled (length line) f (length approx) (length detail) (length scratch) (length out)
+      → (r ≡ Done) × Restored b (squares z) v out′
+  -- and by a pair for each way
+  pub exact-pairs : (alℤ ahℤ slℤ shℤ v : List ℤ) (S : ℤ) (A : ℕ) → PairPremises binary64 f al ah sl sh line alℤ ahℤ slℤ shℤ v S A
+      → Ruled (length line) f (length approx) (length detail) (length scratch) (length out)
+      → (r ≡ Done) × Restored b S v out′

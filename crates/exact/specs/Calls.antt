@@ -11,7 +11,7 @@ use Rattle.numbers.specs.Words.{plusZero, whenDone, cleared}
 use Rattle.numbers.specs.Write.{length-tab, getD-tab}
 use Rattle.numbers.specs.Tests.{kept, renewed, refused}
 use Rattle.whole.specs.Exact.{zero-whole}
-use Rattle.bank.specs.declared.Bank.{Bank}
+use Rattle.border.specs.declared.Border.{Border}
 use Rattle.bank.specs.Lengths.{Analysable}
 use Rattle.analysis.specs.declared.Analysis.{Analysis}
 use Rattle.analysis.specs.declared.Analysis.the-variants as analysis
@@ -25,7 +25,7 @@ use Rattle.synthesis.specs.Tested.{joined-done, done-alone as done-synthesis}
 use Rattle.exact.specs.declared.Back.{Back}
 use Rattle.exact.specs.declared.Back.the-variants as way
 use Rattle.exact.specs.Restoring.{Cleared}
-use Rattle.exact.specs.Entries.{approxed, detailed, approx-length, detail-length, rejoined, entries-restore}
+use Rattle.exact.specs.Entries.{approxed, detailed, approx-length, detail-length, rejoined, entries-restore, entries-restore-pairs}
 use Rattle.exact.specs.Backs.{numberOf, answerOf, Ruled, Returned}
 
 module _ (f n a d s o : ℕ) where
@@ -78,40 +78,42 @@ cleared-zeros n = record {
   clear = λ p h. let l : p < n = omega (arith, length-tab (λ q. plusZero) n) in rw (getD-tab (λ q. plusZero) n p nan l) (zero-whole false);
 }
 
-module _ (bank : Bank) (line approx detail scratch out : List Float) where
+module _ (al ah sl sh : List Float) (F : ℕ) (b : Border) (line approx detail scratch out : List Float) where
   abbrev lengths : Back
-  lengths = answerOf (bank .taps) (length line) (length approx) (length detail) (length scratch) (length out)
+  lengths = answerOf F (length line) (length approx) (length detail) (length scratch) (length out)
 
   -- a refusal leaves everything as it was, and nothing that meets the premises is refused
-  pub returned-refused : {r : Back} → r ≡ lengths → (r ≡ way.Done → ⊥) → Returned bank line approx detail scratch out r approx detail scratch out
+  pub returned-refused : {r : Back} → r ≡ lengths → (r ≡ way.Done → ⊥) → Returned al ah sl sh F b line approx detail scratch out r approx detail scratch out
   returned-refused {r} e h = record {
     answer = e;
     approxes = kept (numberOf r) above _ approx;
     details = kept (numberOf r) above _ detail;
     scratched = kept (numberOf r) above _ scratch;
     joined = kept (numberOf r) above _ out;
-    exact = λ z v A x q. absurd (h (e ∙ met _ _ _ _ _ _ (record { taps = x .taps; limit = x .limit; enough = x .enough }) q));
+    exact = λ _ _ z v A x q. absurd (h (e ∙ met _ _ _ _ _ _ (record { taps = x .taps; limit = x .limit; enough = x .enough }) q));
+    exact-pairs = λ _ _ _ _ v S A x q. absurd (h (e ∙ met _ _ _ _ _ _ (record { taps = x .taps; limit = x .limit; enough = x .enough }) q));
   }
     where
       above : 0 < numberOf r
       above = subst (λ (k : Back). 0 < numberOf k) (sym e)
-          (⊎-elim (λ p. absurd (h (e ∙ sym (both-done _ _ _ _ _ _ (sym (p .0)) (sym (p .1)))))) (λ k. k) (decided (bank .taps) (length line) (length approx) (length detail) (length scratch) (length out)))
+          (⊎-elim (λ p. absurd (h (e ∙ sym (both-done _ _ _ _ _ _ (sym (p .0)) (sym (p .1)))))) (λ k. k) (decided F (length line) (length approx) (length detail) (length scratch) (length out)))
 
   -- the two promises, one after the other
   pub returned-done : {r : Back} {there : Analysis} {back : Synthesis} {a d s clear o : List Float} → r ≡ lengths → r ≡ way.Done
-      → Analyses.Analysed (bank .low) (bank .high) (bank .taps) (bank .border) line approx detail scratch there a d s → clear ≡ cleared (length out) → Syntheses.Synthesised (bank .low) (bank .high) (bank .taps) a d clear back o
-      → Returned bank line approx detail scratch out way.Done a d s o
+      → Analyses.Analysed al ah F b line approx detail scratch there a d s → clear ≡ cleared (length out) → Syntheses.Synthesised sl sh F a d clear back o
+      → Returned al ah sl sh F b line approx detail scratch out way.Done a d s o
   returned-done {r} {there} {back} {a} {d} {s} {clear} {o} e z p c q = record {
     answer = sym z ∙ e;
     approxes = approxed p went;
     details = detailed p went;
     scratched = renewed _ _ (ap Analyses.numberOf went) (p .scratched);
     joined = rejoined p went q came ∙ rw c;
-    exact = λ z v A x y. (refl, entries-restore p went q came (rw c (cleared-zeros (length out))) z v A x);
+    exact = λ e e′ z v A x y. (refl, entries-restore p went q came zeros e e′ z v A x);
+    exact-pairs = λ alℤ ahℤ slℤ shℤ v S A x y. (refl, entries-restore-pairs p went q came zeros alℤ ahℤ slℤ shℤ v S A x);
   }
     where
-      F : ℕ
-      F = bank .taps
+      zeros : Cleared clear
+      zeros = rw c (cleared-zeros (length out))
 
       passed : (Analyses.answerOf F (length line) (length approx) (length detail) (length scratch) ≡ analysis.Done) × (Syntheses.answerOf F (length approx) (length detail) (length out) ≡ synthesis.Done)
       passed = ⊎-elim (λ t. t) (λ k. let n = ap numberOf (sym z ∙ e) in absurd (omega arith)) (decided F (length line) (length approx) (length detail) (length scratch) (length out))

@@ -1,4 +1,4 @@
--- Laws of what the two entries promise, one after the other: a line's bands are joined, and where the output was cleared and the premises hold, the line is restored exactly (`entries-restore`).
+-- Laws of what the two entries promise, one after the other: a line's bands are joined, and where the output was cleared and the premises of either statement hold, the line is restored exactly (`entries-restore`, `entries-restore-pairs`).
 use mathlib.Core.Path.{_≡_, ap, _∙_, subst, sym}
 use mathlib.Core.List.{List}
 use Prim.Native.Nat.{ℕ}
@@ -18,7 +18,8 @@ use Rattle.synthesis.specs.declared.Synthesis.{Synthesis}
 use Rattle.synthesis.specs.declared.Synthesis.the-variants as synthesis
 use Rattle.synthesis.specs.Syntheses as Syntheses
 use Rattle.synthesis.specs.Tested.{joinable}
-use Rattle.exact.specs.Restoring.{squares, Premises, Cleared, thereAndBack, Restored}
+use Rattle.exact.specs.Restoring.{squares, Premises, PairPremises, Cleared, thereAndBack, Restored}
+use Rattle.exact.specs.Four.{pairs-exact}
 use Rattle.exact.specs.Exact.{exact}
 
 module _ {low high : List Float} {F : ℕ} {b : Border} {line approx detail scratch : List Float} {there : Analysis} {a d s : List Float}
@@ -35,13 +36,21 @@ module _ {low high : List Float} {F : ℕ} {b : Border} {line approx detail scra
   pub detail-length : length d ≡ pairs (length line) F
   detail-length = ap length detailed ∙ length-band binary64 high F b line
 
-  module _ {out : List Float} {back : Synthesis} {o : List Float} (q : Syntheses.Synthesised low high F a d out back o) (came : back ≡ synthesis.Done) where
-    pub rejoined : o ≡ thereAndBack binary64 F low high low high b line out
+  module _ {sl sh out : List Float} {back : Synthesis} {o : List Float} (q : Syntheses.Synthesised sl sh F a d out back o) (came : back ≡ synthesis.Done) where
+    pub rejoined : o ≡ thereAndBack binary64 F low high sl sh b line out
     rejoined = renewed _ _ (ap Syntheses.numberOf came) (q .joined) ∙ rw (approxed, detailed)
 
-    pub entries-restore : Cleared out → (z v : List ℤ) (A : ℕ) → Premises binary64 F low high line z v A → Restored b (squares z) v o
-    entries-restore clear z v A x =
-        let j = joinable F (length a) (length d) (length out) (sym (q .answer) ∙ came) in
-        let ruled : length out ≡ lineLength (pairs (length line) F) F = omega (arith, j .ruled, approx-length) in
-        subst (λ (l : List Float). Restored b (squares z) v l) (sym rejoined)
+    ruled : length out ≡ lineLength (pairs (length line) F) F
+    ruled = let j = joinable F (length a) (length d) (length out) (sym (q .answer) ∙ came) in omega (arith, j .ruled, approx-length)
+
+    -- by the same pair both ways
+    pub entries-restore : Cleared out → sl ≡ low → sh ≡ high → (z v : List ℤ) (A : ℕ) → Premises binary64 F low high line z v A → Restored b (squares z) v o
+    entries-restore clear e e′ z v A x =
+        subst (λ (l : List Float). Restored b (squares z) v l) (sym (rejoined ∙ rw (e, e′)))
         (exact binary64 b F low high line out z v A x clear ruled)
+
+    -- by a pair for each way
+    pub entries-restore-pairs : Cleared out → (alℤ ahℤ slℤ shℤ v : List ℤ) (S : ℤ) (A : ℕ) → PairPremises binary64 F low high sl sh line alℤ ahℤ slℤ shℤ v S A → Restored b S v o
+    entries-restore-pairs clear alℤ ahℤ slℤ shℤ v S A x =
+        subst (λ (l : List Float). Restored b S v l) (sym rejoined)
+        (pairs-exact binary64 b F low high sl sh line out alℤ ahℤ slℤ shℤ v S A x clear ruled)

@@ -1,6 +1,6 @@
--- Laws of four lists of whole taps that meet `Restores`, in floats: every place that synthesis gives of an analysis holds S times what the padded line has there (`general`).
--- The float sums are the whole numbers' sums; of the border nothing is asked but that what stands there is a sample or zero.
-use mathlib.Core.Path.{_≡_, sym, subst}
+-- Laws of four lists of whole taps: where they meet the premises restoring is exact (`pairs-exact`), in every format and under every border.
+-- The float sums are the whole numbers' sums, which give S times what the padded line has there (`general`); of the border nothing is asked but that what stands there is a sample or zero.
+use mathlib.Core.Path.{_≡_, sym, subst, _∙_}
 use mathlib.Core.Bool.{false}
 use mathlib.Core.List.{List}
 use Prim.Native.Nat.{ℕ, _+_, _-_, _*_, _/_, _%_, _^_, _≤_, _<_}
@@ -11,7 +11,7 @@ use lib.ListN.{length, getD, List·getD-eq-default}
 use lib.IntN.{ℤ, pos, natAbs, _*ℤ_}
 use lib.Ieee.{Float, nan, Format, prec}
 use Rattle.numbers.specs.Words.{plusZero, at}
-use Rattle.numbers.specs.Write.{getD-tab}
+use Rattle.numbers.specs.Write.{length-tab, getD-tab}
 use Rattle.numbers.specs.Places.{getD-any}
 use Rattle.whole.specs.Sums.{sizesOf}
 use Rattle.whole.specs.Terms.{factor-ℕ}
@@ -19,17 +19,19 @@ use Rattle.whole.specs.Floats.{Whole, Within, atℤ, Holds}
 use Rattle.whole.specs.Exact.{zero-whole}
 use Rattle.border.specs.declared.Border.{Border}
 use Rattle.border.specs.Rule.{Source, Sample, Zero, source, placeIn, valueOf, padded}
+use Rattle.border.specs.Rules.{padded-line, padded-from}
 use Rattle.bank.specs.Lengths.{pairs, lineLength}
 use Rattle.analysis.specs.Sums.{analysed}
 use Rattle.analysis.specs.Lines.{paddedAt, band}
 use Rattle.analysis.specs.Taps.{length-band}
 use Rattle.synthesis.specs.Sums.{joined}
 use Rattle.synthesis.specs.Lines.{synthesised}
-use Rattle.exact.specs.Restoring.{sizes, Cleared, thereAndBack}
+use Rattle.exact.specs.Restoring.{sizes, largestSizes, WholeTaps, PairPremises, Cleared, thereAndBack, Restored, PairsRestoreExactly}
 use Rattle.exact.specs.Classes.{analysedℤ, Restores}
 use Rattle.exact.specs.Weights.{dot-within, join-within}
 use Rattle.exact.specs.Identity.{identity}
 use Rattle.exact.specs.Bounds.{weight-le, bound-band, bound-join}
+use Rattle.exact.specs.Distances.{restores-by}
 
 -- ---- taps, lines and bands as functions of their place
 module _ (f : Format) (g A T : ℕ) (bound : 2 * A * T * T ≤ 2 ^ prec f) (xℤ : ℕ → ℤ) where
@@ -60,7 +62,7 @@ module _ (f : Format) (g A T : ℕ) (bound : 2 * A * T * T ≤ 2 ^ prec f) (xℤ
 
 -- ---- on lists
 -- 2 g whole taps whose sizes together are at most T
-pub record Taps (g T : ℕ) (l : List Float) (z : List ℤ) : Type 0 where
+record Taps (g T : ℕ) (l : List Float) (z : List ℤ) : Type 0 where
   pub holds : Holds l z
   pub count : length z ≡ 2 * g
   pub light : sizes z ≤ T
@@ -71,8 +73,8 @@ taps-whole t k h = t .holds .whole k (omega (arith, t .count))
 taps-weigh : {g T : ℕ} {l : List Float} {z : List ℤ} → Taps g T l z → sizesOf (2 * g) (atℤ z) ≤ T
 taps-weigh {g} {T} {l} {z} t = subst (λ (n : ℕ). sizesOf n (atℤ z) ≤ T) (t .count) (t .light)
 
-pub taps-past : {g T : ℕ} {l : List Float} {z : List ℤ} → Taps g T l z → (k : ℕ) → 2 * g ≤ k → atℤ z k ≡ pos 0
-taps-past {z = z} t k h = let o : length z ≤ k = omega (arith, t .count) in List·getD-eq-default z (pos 0) o
+pub taps-past : {n : ℕ} (z : List ℤ) → length z ≡ n → (k : ℕ) → n ≤ k → atℤ z k ≡ pos 0
+taps-past z e k h = let o : length z ≤ k = omega (arith, e) in List·getD-eq-default z (pos 0) o
 
 -- the padded line is whole, whatever the border
 padded-within : (b : Border) (s : List Float) (v : List ℤ) (A : ℕ) → Holds s v → length v ≡ length s → ((i : ℕ) → i < length v → natAbs (atℤ v i) ≤ A)
@@ -105,7 +107,7 @@ module _ (f : Format) (b : Border) (g : ℕ) (S : ℤ) (sl sh al ah s out : List
       (band-within f g A T bound (padded (pos 0) b v (2 * g - 2)) (at l) (paddedAt (2 * g) b s) (atℤ z) (taps-whole t) (taps-weigh t) (padded-within b s v A samples count small (2 * g - 2)) i)
 
   -- every place that synthesis gives holds S times what the padded line has there
-  pub general : (p : ℕ) → p < length out
+  general : (p : ℕ) → p < length out
       → Whole (at (thereAndBack f (2 * g) al ah sl sh b s out) p) (S *ℤ padded (pos 0) b v (2 * g - 2) (2 * g - 2 + p))
   unfolding synthesised
   general p h =
@@ -119,5 +121,43 @@ module _ (f : Format) (b : Border) (g : ℕ) (S : ℤ) (sl sh al ah s out : List
         there,
       )
       (joined-whole f g A T bound (padded (pos 0) b v (F - 2)) (pairs (length s) F) S (at sl) (at sh) (at low) (at high) (atℤ slℤ) (atℤ shℤ) (atℤ alℤ) (atℤ ahℤ) (at out p) (F - 2 + p)
-      (taps-whole tsl) (taps-whole tsh) (taps-weigh tsl) (taps-weigh tsh) (bands-within tal) (bands-within tah) (taps-past tal) (taps-past tah) r
+      (taps-whole tsl) (taps-whole tsh) (taps-weigh tsl) (taps-weigh tsh) (bands-within tal) (bands-within tah) (taps-past alℤ (tal .count)) (taps-past ahℤ (tah .count)) r
       (clear .clear p h) (omega arith) (omega arith))
+
+-- ---- the premises
+module _ (f : Format) (b : Border) (g : ℕ) (al ah sl sh s out : List Float) (alℤ ahℤ slℤ shℤ v : List ℤ) (S : ℤ) (A : ℕ) (x : PairPremises f (2 * g) al ah sl sh s alℤ ahℤ slℤ shℤ v S A)
+    (clear : Cleared out) (ruled : length out ≡ lineLength (pairs (length s) (2 * g)) (2 * g)) where
+  abbrev T : ℕ
+  T = largestSizes alℤ ahℤ slℤ shℤ
+
+  weighed : {l : List Float} {z : List ℤ} → WholeTaps (2 * g) l z → sizes z ≤ T → Taps g T l z
+  weighed t k = record { holds = t .holds; count = t .told; light = k }
+
+  some : 0 < g
+  some = omega (arith, x .taps .two)
+
+  places : (p : ℕ) → p < length out → Whole (at (thereAndBack f (2 * g) al ah sl sh b s out) p) (S *ℤ padded (pos 0) b v (2 * g - 2) (2 * g - 2 + p))
+  places =
+      general f b g S sl sh al ah s out slℤ shℤ alℤ ahℤ v A T some
+      (weighed (x .back-low) (omega arith)) (weighed (x .back-high) (omega arith)) (weighed (x .there-low) (omega arith)) (weighed (x .there-high) (omega arith))
+      (x .samples) (x .count) (x .small) (x .bound) (restores-by g S alℤ ahℤ slℤ shℤ (x .back-low .told) (x .back-high .told) (x .here) (λ e d h k. x .apart e d (omega (arith, h)) (omega (arith, k)))) clear ruled
+
+  long : length out ≡ length v + length v % 2
+  long = omega (arith, x .count, ruled, some)
+
+  all-restored : Restored b S v (thereAndBack f (2 * g) al ah sl sh b s out)
+  unfolding synthesised
+  all-restored = record {
+    long = length-tab _ (length out) ∙ long;
+    each = λ i h. subst (λ (y : ℤ). Whole (at (thereAndBack f (2 * g) al ah sl sh b s out) i) (S *ℤ y)) (padded-line (pos 0) b v (2 * g - 2) i h) (places i (omega (arith, long)));
+    extra = λ h. subst (λ (y : ℤ). Whole (at (thereAndBack f (2 * g) al ah sl sh b s out) (length v)) (S *ℤ y)) (padded-from (pos 0) b v (2 * g - 2) (length v)) (places (length v) (omega (arith, long)));
+  }
+
+pub pairs-exact : (f : Format) → PairsRestoreExactly f
+pairs-exact f b F al ah sl sh s out alℤ ahℤ slℤ shℤ v S A x clear ruled =
+    let g = F / 2 in
+    let e : 2 * g ≡ F = omega (arith, x .taps .even) in
+    subst (λ (n : ℕ). Restored b S v (thereAndBack f n al ah sl sh b s out)) e
+    (all-restored f b g al ah sl sh s out alℤ ahℤ slℤ shℤ v S A
+    (subst (λ (n : ℕ). PairPremises f n al ah sl sh s alℤ ahℤ slℤ shℤ v S A) (sym e) x) clear
+    (subst (λ (n : ℕ). length out ≡ lineLength (pairs (length s) n) n) (sym e) ruled))

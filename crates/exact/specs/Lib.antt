@@ -1,10 +1,11 @@
 -- Restoring is exact. Definitions: Restoring, the statement; Classes, the condition of four lists; Backs, what running there and back promises.
--- Laws: Weights, Moved, Reach, Identity, Signs, Mirror, Bounds, Four, Exact, the proof; Made, of banks; Entries, Calls, Unique, of the code.
+-- Laws: Weights, Moved, Distances, Reach, Identity, Signs, Mirror, Bounds, Four, Exact, the proof; Made, of banks; Entries, Calls, Unique, of the code.
 pub mod Restoring
 pub mod Classes
 pub mod Backs
 pub mod Weights
 pub mod Moved
+pub mod Distances
 pub mod Reach
 pub mod Identity
 pub mod Signs

@@ -1,4 +1,4 @@
--- Laws of the bank that `mirrored` makes of whole taps: its arrays begin with them, and its high taps are theirs by the mirror rule.
+-- Laws of banks that are made of whole taps: their arrays begin with them, and the high taps that `mirrored` makes are theirs by the mirror rule.
 use mathlib.Core.Path.{_≡_, sym, subst}
 use mathlib.Core.Bool.{Bool, true, false, cond}
 use mathlib.Core.List.{List}
@@ -16,11 +16,11 @@ use Rattle.border.specs.declared.Border.{Border}
 use Rattle.bank.specs.Banks as Banks
 use Rattle.exact.specs.Restoring.{mirror}
 
-module _ (l : List Float) (z : List ℤ) (h : Holds l z) (e : length l ≡ length z) (b : Border) where
-  -- its arrays begin with the taps
-  pub made-lows : Holds (Banks.bankOf l (Banks.mirror l) b .low) z
-  made-lows = record { whole = λ j k. subst (λ (x : Float). Whole x (atℤ z j)) (sym (getD-written-in (at l) (length l) Banks.zeros j nan (omega arith))) (h .whole j k) }
+-- an array begins with the taps that were put there
+pub made-taps : (n : ℕ) (l : List Float) (z : List ℤ) → Holds l z → n ≡ length z → Holds (Banks.arrayOf n (at l)) z
+made-taps n l z h e = record { whole = λ j k. subst (λ (x : Float). Whole x (atℤ z j)) (sym (getD-written-in (at l) n Banks.zeros j nan (omega arith))) (h .whole j k) }
 
+module _ (l : List Float) (z : List ℤ) (h : Holds l z) (e : length l ≡ length z) (b : Border) where
   signed-whole : (t : Bool) (x : Float) (y : ℤ) → Whole x y → Whole (cond t x (neg x)) (cond t y (negℤ y))
   signed-whole true x y w = w
   signed-whole false x y w = neg-whole x y w

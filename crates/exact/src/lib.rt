@@ -2,12 +2,12 @@
 ghost use mathlib.Core.Path.{_≡_};
 ghost use Rattle.exact.specs.Backs.{answerOf, Returned};
 use analysis::Analysis;
-use analysis::analyse;
 use analysis::analysis_answer;
+use analysis::lists::analyse;
 use bank::Bank;
 use synthesis::Synthesis;
+use synthesis::lists::synthesise;
 use synthesis::synthesis_answer;
-use synthesis::synthesise;
 use synthesis::work::clear;
 
 // Done, or which way was refused and how.
@@ -39,7 +39,7 @@ pub fn back_answer(
     Back::Done
 }
 
-// Both entries, one after the other.
+// Both ways, one after the other, by the lists of one bank: each entry would copy its pair once more.
 pub fn there_and_back(
     bank: Bank,
     line: &[f64],
@@ -48,7 +48,7 @@ pub fn there_and_back(
     scratch: &mut [f64],
     out: &mut [f64],
 ) -> Back
-    ensures { λ r. ⌜ Returned bank (now (line .entry)) (now (approx .entry)) (now (detail .entry)) (now (scratch .entry)) (now (out .entry))
+    ensures { λ r. ⌜ Returned (bank .low) (bank .high) (bank .lowback) (bank .highback) (bank .taps) (bank .border) (now (line .entry)) (now (approx .entry)) (now (detail .entry)) (now (scratch .entry)) (now (out .entry))
         r (now (approx .exit)) (now (detail .exit)) (now (scratch .exit)) (now (out .exit)) ⌝ }
 {
     let answer = back_answer(
@@ -62,8 +62,14 @@ pub fn there_and_back(
     let Back::Done = answer else {
         return answer;
     };
-    analyse(bank, line, approx, detail, scratch);
+    let f = bank.taps;
+    let border = bank.border;
+    let low = &bank.low;
+    let high = &bank.high;
+    analyse(low, high, f, border, line, approx, detail, scratch);
     clear(out);
-    synthesise(bank, approx, detail, out);
+    let lowback = &bank.lowback;
+    let highback = &bank.highback;
+    synthesise(lowback, highback, f, approx, detail, out);
     Back::Done
 }

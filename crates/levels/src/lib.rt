@@ -39,7 +39,8 @@ pub fn analyse_levels(
 {
     let f = bank.taps;
     let border = bank.border;
-    let low = &bank.low;
-    let high = &bank.high;
-    lists::analyse_levels(low, high, f, border, line, levels, packed, scratch)
+    // lent in place, the whole bank would be copied
+    let low = bank.low;
+    let high = bank.high;
+    lists::analyse_levels(&low, &high, f, border, line, levels, packed, scratch)
 }

@@ -54,7 +54,8 @@ pub fn analyse_plane(
 {
     let f = bank.taps;
     let border = bank.border;
-    let low = &bank.low;
-    let high = &bank.high;
-    lists::analyse_plane(low, high, f, border, plane, w, h, ll, lh, hl, hh, scratch)
+    // lent in place, the whole bank would be copied
+    let low = bank.low;
+    let high = bank.high;
+    lists::analyse_plane(&low, &high, f, border, plane, w, h, ll, lh, hl, hh, scratch)
 }

@@ -72,11 +72,12 @@ pub fn synthesise_plane(
     plane: &mut [f64],
     scratch: &mut [f64],
 ) -> Planes
-    ensures { λ r. ⌜ Synthesised (bank .low) (bank .high) (bank .taps) (now (ll .entry)) (now (lh .entry)) (now (hl .entry)) (now (hh .entry)) w h (now (plane .entry)) (now (scratch .entry))
+    ensures { λ r. ⌜ Synthesised (bank .lowback) (bank .highback) (bank .taps) (now (ll .entry)) (now (lh .entry)) (now (hl .entry)) (now (hh .entry)) w h (now (plane .entry)) (now (scratch .entry))
         r (now (plane .exit)) (now (scratch .exit)) ⌝ }
 {
     let f = bank.taps;
-    let low = &bank.low;
-    let high = &bank.high;
-    lists::synthesise_plane(low, high, f, ll, lh, hl, hh, w, h, plane, scratch)
+    // lent in place, the whole bank would be copied
+    let low = bank.lowback;
+    let high = bank.highback;
+    lists::synthesise_plane(&low, &high, f, ll, lh, hl, hh, w, h, plane, scratch)
 }

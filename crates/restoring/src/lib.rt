@@ -44,12 +44,13 @@ pub fn restore_levels(
     first: &mut [f64],
     second: &mut [f64],
 ) -> Levels
-    ensures { λ r. ⌜ Restored (bank .low) (bank .high) (bank .taps) (now (packed .entry)) n levels (now (first .entry)) (now (second .entry)) r (now (first .exit)) (now (second .exit)) ⌝ }
+    ensures { λ r. ⌜ Restored (bank .lowback) (bank .highback) (bank .taps) (now (packed .entry)) n levels (now (first .entry)) (now (second .entry)) r (now (first .exit)) (now (second .exit)) ⌝ }
 {
     let f = bank.taps;
-    let low = &bank.low;
-    let high = &bank.high;
-    lists::restore_levels(low, high, f, packed, n, levels, first, second)
+    // lent in place, the whole bank would be copied
+    let low = bank.lowback;
+    let high = bank.highback;
+    lists::restore_levels(&low, &high, f, packed, n, levels, first, second)
 }
 
 // The same, answered with the line itself, the front of the buffer that holds it; the empty part where `restoring_answer` refuses.
@@ -61,10 +62,13 @@ pub fn restored_line<'a>(
     first: &'a mut [f64],
     second: &'a mut [f64],
 ) -> &'a mut [f64]
-    ensures { λ r. ⌜ HandedOut (bank .low) (bank .high) (bank .taps) (now (packed .entry)) n levels (first .entry) (second .entry) r ⌝ }
+    ensures { λ r. ⌜ HandedOut (bank .lowback) (bank .highback) (bank .taps) (now (packed .entry)) n levels (first .entry) (second .entry) r ⌝ }
 {
     let f = bank.taps;
-    let answer = restore_levels(bank, packed, n, levels, first, second);
+    // lent in place, the whole bank would be copied
+    let lows = bank.lowback;
+    let highs = bank.highback;
+    let answer = lists::restore_levels(&lows, &highs, f, packed, n, levels, first, second);
     let Levels::Done = answer else {
         return &mut first[..0];
     };

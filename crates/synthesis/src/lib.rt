@@ -46,10 +46,11 @@ pub fn synthesis_answer(f: usize, approx: usize, detail: usize, out: usize) -> S
 
 // Both bands joined onto what the output held.
 pub fn synthesise(bank: Bank, approx: &[f64], detail: &[f64], out: &mut [f64]) -> Synthesis
-    ensures { λ r. ⌜ Synthesised (bank .low) (bank .high) (bank .taps) (now (approx .entry)) (now (detail .entry)) (now (out .entry)) r (now (out .exit)) ⌝ }
+    ensures { λ r. ⌜ Synthesised (bank .lowback) (bank .highback) (bank .taps) (now (approx .entry)) (now (detail .entry)) (now (out .entry)) r (now (out .exit)) ⌝ }
 {
     let f = bank.taps;
-    let low = &bank.low;
-    let high = &bank.high;
-    lists::synthesise(low, high, f, approx, detail, out)
+    // lent in place, the whole bank would be copied
+    let low = bank.lowback;
+    let high = bank.highback;
+    lists::synthesise(&low, &high, f, approx, detail, out)
 }

@@ -1,4 +1,4 @@
--- `exact::there_and_back` meets its contract by the promises of the two entries: a refusal leaves all as it was, and what is done is one entry's work after the other's.
+-- `exact::there_and_back` meets its contract by the promises of both ways over lists: a refusal leaves all as it was, and what is done is one way's work after the other's.
 use borrow.Author.Needs.{needs}
 use denote.Enum.Declared.{tagOf, declared}
 use lib.Dec.{lit<}
@@ -17,7 +17,7 @@ enum-told c = search needs
 
 returns : tie.Need-returns
 returns c = let r = c .before .back-answer .result in
-    returned-refused _ _ _ _ _ _ (c .before .back-answer .ensures) (other (tagOf (declared enum)) r refl (key-above 1 1 _ (lit< tt) (c .match .keys2)))
+    returned-refused _ _ _ _ _ _ _ _ _ _ _ (c .before .back-answer .ensures) (other (tagOf (declared enum)) r refl (key-above 1 1 _ (lit< tt) (c .match .keys2)))
 
 analyse-requires : tie.Need-analyse-requires
 analyse-requires c κs = search needs
@@ -43,10 +43,10 @@ same-length-4 c = search needs
 returns-2 : tie.Need-returns-2
 returns-2 c =
     let back = c .before .before in
-    let clear = back .before .before .before .before .before .before in
+    let clear = back .before .before .before .before .before .before .before .before .before .before .before in
     let there = clear .before .before .before .before .before .before .before .before in
-    let told = there .before .before .before .before in
-    returned-done _ _ _ _ _ _ (told .before .before .back-answer .ensures) (told .enum-told .given .1) (there .analyse .ensures) (clear .clear .ensures) (back .synthesise .ensures)
+    let told = there .before .before .before .before .before .before .before .before .before in
+    returned-done _ _ _ _ _ _ _ _ _ _ _ (told .before .before .back-answer .ensures) (told .enum-told .given .1) (there .analyse .ensures) (clear .clear .ensures) (back .synthesise .ensures)
 
 pub there-and-back-spec : {M : Type 1} → statement M
 there-and-back-spec =

@@ -1,11 +1,18 @@
 -- `restoring::restore_levels` meets its contract: it is that of its lists, which are a bank's arrays with their count.
 use borrow.Author.Needs.{needs}
+use mathlib.Core.Path.{sym}
 use Rattle.bank.specs.Tested.{counted-all}
 use Rattle.restoring.proofs.restore_levels.Statement.{statement}
 use Rattle.restoring.proofs.restore_levels.Tie as tie
 
+slice-aggregate-restore-levels : tie.Need-slice-aggregate-restore-levels
+slice-aggregate-restore-levels c = search needs
+
+slice-aggregate-restore-levels-2 : tie.Need-slice-aggregate-restore-levels-2
+slice-aggregate-restore-levels-2 c = search needs
+
 restore-levels-requires : tie.Need-restore-levels-requires
-restore-levels-requires c κs = let h = c .before .before in counted-all (h .before .restore-levels-arg .given .0) (h .restore-levels-arg2 .given .0)
+restore-levels-requires c κs = let h = c .before .before in counted-all (sym (slice-aggregate-restore-levels (h .before))) (sym (slice-aggregate-restore-levels-2 h))
 
 same-length : tie.Need-same-length
 same-length c = search needs
@@ -17,4 +24,4 @@ returns : tie.Need-returns
 returns c = c .before .before .before .before .restore-levels .ensures
 
 pub restore-levels-spec : {M : Type 1} → statement M
-restore-levels-spec = tie.close (tie.spec restore-levels-requires same-length same-length-2 returns)
+restore-levels-spec = tie.close (tie.spec slice-aggregate-restore-levels slice-aggregate-restore-levels-2 restore-levels-requires same-length same-length-2 returns)

@@ -40,10 +40,11 @@ done-requires c κs = search needs
 returns-3 : tie.Need-returns-3
 returns-3 c = let e = c .before .before .before in
     let h = now (e .before .before .before .before .before .args .high) in
+    let lows = c .before .before .held .ensures in
+    let highs = c .before .held2 .ensures ∙ ap (λ (k : ℕ). written (at h) k zeros) (e .if2 .left) in
     record {
       answer = c .done .ensures .0 ∙ simp (sym (e .before .before .bad-taps .ensures) ∙ e .before .if1 .left, eq-eqb _ _ (e .if2 .left));
-      made = made-bank (c .done .ensures .0) (c .done .ensures .1) (c .before .before .held .ensures)
-          (c .before .held2 .ensures ∙ ap (λ (k : ℕ). written (at h) k zeros) (e .if2 .left));
+      made = made-bank (c .done .ensures .0) (c .done .ensures .1) lows highs lows highs;
     }
 
 pub bank-spec : {M : Type 1} → statement M

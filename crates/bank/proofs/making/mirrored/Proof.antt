@@ -30,9 +30,11 @@ done-requires c κs = search needs
 returns-2 : tie.Need-returns-2
 returns-2 c = let e = c .before .before .before in
     let low = now (e .before .before .before .args .low) in
+    let lows = c .before .before .held .ensures in
+    let highs = c .before .low-pass-to-high .ensures in
     record {
       answer = c .done .ensures .0 ∙ simp (sym (e .before .bad-taps .ensures) ∙ e .if1 .left, eq-eqb (length low) _ refl);
-      made = made-bank (c .done .ensures .0) (c .done .ensures .1) (c .before .before .held .ensures) (c .before .low-pass-to-high .ensures);
+      made = made-bank (c .done .ensures .0) (c .done .ensures .1) lows highs lows highs;
     }
 
 pub mirrored-spec : {M : Type 1} → statement M

@@ -8,7 +8,7 @@ use lib.ListN.{replicate}
 use mathlib.Core.List.{List}
 
 returns : tie.Need-returns
-returns c = (refl, ap (λ (z : List Float). record { low = z; high = z; taps = 0; border = c .args .border }) (ap (replicate 64) (literal-zero binary64)))
+returns c = (refl, ap (λ (z : List Float). record { low = z; high = z; lowback = z; highback = z; taps = 0; border = c .args .border }) (ap (replicate 64) (literal-zero binary64)))
 
 pub refused-spec : {M : Type 1} → statement M
 refused-spec = tie.close (tie.spec returns)
