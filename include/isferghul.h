@@ -56,12 +56,19 @@ uint64_t isferghul_convolution_scratch(size_t n, size_t f, int64_t centre, size_
 /* The high taps that the mirror rule makes of the low ones: high tap j is low tap f-1-j, its sign turned at odd j. Refuses by 12. */
 uint64_t isferghul_mirror(const double *low, size_t lows, double *high, size_t highs);
 
+/* A bank has a pair of tap lists for the way there, low and high, and one for the way back, lowback and highback: the same pair, or one of its own, as the
+   biorthogonal banks have. The calls that split a line or a plane take the first pair, those that join take the second in their low and high. All four lists
+   have one length, an even one from 2 to 64; fill shorter ones with zeros first. No call sees all four, so this one tells whether lists of such lengths make a
+   bank: ask it once, before the first split. Refuses by 12. */
+uint64_t isferghul_two_pairs(size_t lows, size_t highs, size_t lowbacks, size_t highbacks);
+
 /* Both bands of a line. The scratch then begins with the padded line and is as it was beyond it. Refuses by 26, 12, 11, 1, 2, 2, 5. */
 uint64_t isferghul_analyse(size_t border, const double *low, size_t lows, const double *high, size_t highs,
                            const double *line, size_t samples, double *approx, size_t approxes, double *detail, size_t details,
                            double *scratch, size_t scratches, size_t carried[2]);
 
-/* Both bands joined onto what the output holds: clear it first to have the line alone. Refuses by 12, 11, 3, 7, 4. */
+/* Both bands joined onto what the output holds: clear it first to have the line alone. Low and high are the way back's: the pair that split the line, or
+   a pair of its own (isferghul_two_pairs). Refuses by 12, 11, 3, 7, 4. */
 uint64_t isferghul_synthesise(const double *low, size_t lows, const double *high, size_t highs,
                               const double *approx, size_t approxes, const double *detail, size_t details,
                               double *out, size_t outs, size_t carried[2]);
@@ -98,7 +105,8 @@ uint64_t isferghul_analyse_levels(size_t border, const double *low, size_t lows,
 
 /* The line back from the packed buffer of n samples, joined between two work buffers by turns, from the deepest level up. On 0 carried[0] says in
    which buffer the line stands, from its front: 1, the first, for an odd number of levels, 2, the second, for an even one; and carried[1] how long
-   it is, n, or n + 1 for an odd n. Both buffers are as they were beyond that length. Refuses by 12, 11, 1 or 9, 10, 5 for the first, 5 for the second. */
+   it is, n, or n + 1 for an odd n. Both buffers are as they were beyond that length. Low and high are the way back's: the pair of the analysis, or a pair
+   of its own (isferghul_two_pairs). Refuses by 12, 11, 1 or 9, 10, 5 for the first, 5 for the second. */
 uint64_t isferghul_restore_levels(const double *low, size_t lows, const double *high, size_t highs,
                                   const double *packed, size_t packeds, size_t n, size_t levels,
                                   double *first, size_t firsts, double *second, size_t seconds, size_t carried[2]);
@@ -132,7 +140,8 @@ uint64_t isferghul_analyse_plane(size_t border, const double *low, size_t lows, 
                                  double *scratch, size_t scratches, size_t carried[2]);
 
 /* The plane that four bands give; unlike a line's, its joins start from +0, so what the plane held is gone. Both sides are even: an odd one is refused
-   by 4, whose need is one more. What the scratch then holds within its need is not said; beyond it is as it was.
+   by 4, whose need is one more. What the scratch then holds within its need is not said; beyond it is as it was. Low and high are the way back's: the pair of
+   the analysis, or a pair of its own (isferghul_two_pairs).
    Refuses by 12, 7, 11, 10 for the plane, 10 for the scratch, 2 for LL, LH, HL and HH in turn, 4 for the height, 4 for the width. */
 uint64_t isferghul_synthesise_plane(const double *low, size_t lows, const double *high, size_t highs,
                                     const double *ll, size_t lls, const double *lh, size_t lhs, const double *hl, size_t hls, const double *hh, size_t hhs,

@@ -1,4 +1,4 @@
-/* A small program over the library: P8 and P9 of docs/RULES.md. What it has to print stands in example.txt, worked out from the rules. */
+/* A small program over the library: P8 and P9 of docs/RULES.md, and a bank of two pairs. What it has to print stands in example.txt, worked out from the rules. */
 #include "isferghul.h"
 #include <stdio.h>
 #include <stdlib.h>
@@ -7,6 +7,10 @@
 #define TAPS 4
 #define BAND 3
 #define SCRATCH 8
+/* of the 5/3 bank */
+#define SIX 6
+#define SIX_BAND 5
+#define SIX_SCRATCH 14
 
 /* Ends the program where a call did not do what is expected of it. */
 static void must_be(uint64_t number, uint64_t expected, const char *what) {
@@ -20,6 +24,23 @@ static void print(const char *what, const double *list, size_t count) {
     printf("%s", what);
     for (i = 0; i < count; i++) printf(" %g", list[i]);
     printf("\n");
+}
+
+/* The 5/3 bank, filled with zeros to six taps: a line is split by one pair and joined by the other, which gives 16 times the line. */
+static void by_two_pairs(void) {
+    const double low[SIX] = {-1, 2, 6, 2, -1, 0}, high[SIX] = {0, 0, -1, 2, -1, 0};
+    const double lowback[SIX] = {0, 1, 2, 1, 0, 0}, highback[SIX] = {0, -1, -2, 6, -2, -1};
+    const double line[SIX] = {5, 0, 3, -4, 9, 2};
+    double approx[SIX_BAND], detail[SIX_BAND], scratch[SIX_SCRATCH], joined[SIX] = {0, 0, 0, 0, 0, 0};
+    size_t carried[2];
+
+    printf("lists of 5, 3, 3 and 5 taps: number %lu\n", (unsigned long)isferghul_two_pairs(5, 3, 3, 5));
+    must_be(isferghul_two_pairs(SIX, SIX, SIX, SIX), 0, "two pairs");
+    must_be(isferghul_analyse(ISFERGHUL_MIRROR101, low, SIX, high, SIX, line, SIX, approx, SIX_BAND, detail, SIX_BAND, scratch, SIX_SCRATCH, carried), 0, "analyse by one pair");
+    print("approximations by one pair", approx, SIX_BAND);
+    print("details by one pair", detail, SIX_BAND);
+    must_be(isferghul_synthesise(lowback, SIX, highback, SIX, approx, SIX_BAND, detail, SIX_BAND, joined, SIX, carried), 0, "synthesise by the other");
+    print("joined by the other", joined, SIX);
 }
 
 int main(void) {
@@ -56,5 +77,7 @@ int main(void) {
     number = isferghul_convolve(ISFERGHUL_ZEROS, ramp, SAMPLES, out, SAMPLES, scratch, SCRATCH, kernel, 3, 3, carried);
     printf("centre 3: number %lu, carries %lu and %lu\n", (unsigned long)number, (unsigned long)carried[0], (unsigned long)carried[1]);
     print("still", out, SAMPLES);
+
+    by_two_pairs();
     return 0;
 }

@@ -131,6 +131,7 @@ static uint64_t call(uint64_t op, const uint64_t *s, const struct list *l, size_
     case ANALYSIS_SCRATCH: return isferghul_analysis_scratch(s[0], s[1], carried);
     case CONVOLUTION_SCRATCH: return isferghul_convolution_scratch(s[0], s[1], (int64_t)s[2], carried);
     case MIRROR: return isferghul_mirror(l[0].seen, l[0].count, l[1].seen, l[1].count);
+    case TWO_PAIRS: return isferghul_two_pairs(s[0], s[1], s[2], s[3]);
     default: return op < PLANE_BAND_WIDTH ? call_levels(op, s, l, carried) : call_planes(op, s, l, carried);
     }
 }

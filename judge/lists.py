@@ -9,6 +9,7 @@ import sys
 sys.dont_write_bytecode = True
 import asked
 import asked_levels
+import asked_pairs
 import asked_planes
 import examples
 import protocol
@@ -33,7 +34,8 @@ def of_rules():
     for theme in (asked.lengths, asked.lists_of_taps, asked.borders, asked.mirrors, asked.lines, asked.kernels, asked.roundings, asked.specials, asked.refused_lines, asked.refused_kernels, asked.there_and_back, asked.odd_lines,
                   asked_levels.lengths, asked_levels.analyses, asked_levels.parts, asked_levels.restorings, asked_levels.there_and_back, asked_levels.refusals,
                   asked_planes.lengths, asked_planes.analyses, asked_planes.there_and_back, asked_planes.syntheses, asked_planes.refused_analyses, asked_planes.refused_syntheses,
-                  asked_planes.comparings):
+                  asked_planes.comparings,
+                  asked_pairs.lengths, asked_pairs.there_and_back, asked_pairs.premises_fail, asked_pairs.levels, asked_pairs.planes, asked_pairs.refusals):
         theme()
     return asked.ASKED
 
@@ -52,7 +54,7 @@ def few(questions):
 def lists():
     questions = of_rules()
     return {
-        DATA / 'rules': ["# Calls and the answers of docs/RULES.md to them, computed by judge/rules.py and judge/sums.py; judge/asked.py and the two beside it ask.", *protocol.FORM, *answered(questions)],
+        DATA / 'rules': ["# Calls and the answers of docs/RULES.md to them, computed by judge/rules.py and judge/sums.py; judge/asked.py and the three beside it ask.", *protocol.FORM, *answered(questions)],
         DATA / 'examples': ["# P1 to P13 of docs/RULES.md, made by judge/examples.py of the list that is proved in crates/worked/specs/Examples.antt.", *protocol.FORM, *answered(examples.questions())],
         ROOT / 'crates/example/stdout': shown.lines(),
         SMALL: ["# P1 to P13 of docs/RULES.md, and a few of the questions that crates/replay/data/rules has of each operation.", *protocol.FORM, *answered(examples.questions()), *answered(few(questions))]}

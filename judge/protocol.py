@@ -21,6 +21,8 @@ BORDERS = ('Clamp', 'Wrap', 'Reflect', 'Zeros', 'Reflect101', 'Mirror', 'Mirror1
 RUST_BORDERS, MIRRORS = range(5), range(5, len(BORDERS))
 
 Shape = collections.namedtuple('Shape', 'name scalars lists lent')
+# how many taps each list of two pairs has
+PAIRS = ('low', 'high', 'lowback', 'highback')
 # Every operation's number and name, once: ANALYSE and so on are made of them below, and `protocol.py c` and `protocol.py rust` print them for the judge's two sides.
 SHAPES = {
     1: Shape('analyse', ('border',), ('low', 'high', 'line', 'approx', 'detail', 'scratch'), (3, 4, 5)),
@@ -46,22 +48,27 @@ SHAPES = {
     21: Shape('analyse_plane', ('border', 'width', 'height'), ('low', 'high', 'plane', 'll', 'lh', 'hl', 'hh', 'scratch'), (3, 4, 5, 6, 7)),
     22: Shape('synthesise_plane', ('width', 'height'), ('low', 'high', 'll', 'lh', 'hl', 'hh', 'plane', 'scratch'), (6, 7)),
     23: Shape('compare_bands', ('width', 'height'), ('first', 'second'), ()),
+    24: Shape('two_pairs', PAIRS, (), ()),
     # of the judge alone
-    24: Shape('large_plane', ('border', 'width', 'height'), ('low', 'high', 'block', 'digests'), (3,)),
+    25: Shape('large_plane', ('border', 'width', 'height'), ('low', 'high', 'block', 'digests'), (3,)),
     # of the lists alone: the tests on lengths, which take what no program could lend, and entries that are not for C
-    25: Shape('analysis_answer', ('f', 'n', 'approx', 'detail', 'scratch'), (), ()),
-    26: Shape('synthesis_answer', ('f', 'approx', 'detail', 'out'), (), ()),
-    27: Shape('convolution_answer', ('border', 'n', 'out', 'f', 'centre', 'scratch'), (), ()),
-    28: Shape('levels_answer', ('n', 'f', 'levels', 'packed', 'scratch'), (), ()),
-    29: Shape('restoring_answer', ('n', 'f', 'levels', 'packed', 'first', 'second'), (), ()),
-    30: Shape('handing_answer', ('n', 'f', 'levels', 'packed', 'level'), (), ()),
-    31: Shape('plane_analysis_answer', ('width', 'height', 'f', 'plane', 'scratch', 'll', 'lh', 'hl', 'hh'), (), ()),
-    32: Shape('plane_synthesis_answer', ('width', 'height', 'f', 'plane', 'scratch', 'll', 'lh', 'hl', 'hh'), (), ()),
-    33: Shape('comparing_answer', ('width', 'height', 'first', 'second'), (), ()),
-    34: Shape('back_answer', ('f', 'n', 'approx', 'detail', 'scratch', 'out'), (), ()),
-    35: Shape('there_and_back', ('border',), ('low', 'high', 'line', 'approx', 'detail', 'scratch', 'out'), (3, 4, 5, 6)),
-    36: Shape('level_details', ('n', 'f', 'levels', 'level'), ('packed', 'part'), (1,)),
-    37: Shape('restored_line', ('n', 'levels'), ('low', 'high', 'packed', 'first', 'second', 'restored'), (3, 4, 5)),
+    26: Shape('analysis_answer', ('f', 'n', 'approx', 'detail', 'scratch'), (), ()),
+    27: Shape('synthesis_answer', ('f', 'approx', 'detail', 'out'), (), ()),
+    28: Shape('convolution_answer', ('border', 'n', 'out', 'f', 'centre', 'scratch'), (), ()),
+    29: Shape('levels_answer', ('n', 'f', 'levels', 'packed', 'scratch'), (), ()),
+    30: Shape('restoring_answer', ('n', 'f', 'levels', 'packed', 'first', 'second'), (), ()),
+    31: Shape('handing_answer', ('n', 'f', 'levels', 'packed', 'level'), (), ()),
+    32: Shape('plane_analysis_answer', ('width', 'height', 'f', 'plane', 'scratch', 'll', 'lh', 'hl', 'hh'), (), ()),
+    33: Shape('plane_synthesis_answer', ('width', 'height', 'f', 'plane', 'scratch', 'll', 'lh', 'hl', 'hh'), (), ()),
+    34: Shape('comparing_answer', ('width', 'height', 'first', 'second'), (), ()),
+    35: Shape('back_answer', ('f', 'n', 'approx', 'detail', 'scratch', 'out'), (), ()),
+    36: Shape('there_and_back', ('border',), ('low', 'high', 'line', 'approx', 'detail', 'scratch', 'out'), (3, 4, 5, 6)),
+    37: Shape('level_details', ('n', 'f', 'levels', 'level'), ('packed', 'part'), (1,)),
+    38: Shape('restored_line', ('n', 'levels'), ('low', 'high', 'packed', 'first', 'second', 'restored'), (3, 4, 5)),
+    # by a bank of two pairs: the four tap lists one after another in one, told by their lengths
+    39: Shape('back_by_pairs', ('border', *PAIRS), ('taps', 'line', 'approx', 'detail', 'scratch', 'out'), (2, 3, 4, 5)),
+    40: Shape('restored_by_pairs', ('n', 'levels', *PAIRS), ('taps', 'packed', 'first', 'second', 'restored'), (2, 3, 4)),
+    41: Shape('plane_by_pairs', ('width', 'height', *PAIRS), ('taps', 'll', 'lh', 'hl', 'hh', 'plane', 'scratch'), (5, 6)),
 }
 globals().update({shape.name.upper(): op for op, shape in SHAPES.items()})
 PLANE_SIZES = tuple(op for op, shape in SHAPES.items() if shape.name.startswith('plane_') and shape.scalars == ('width', 'height', 'f'))

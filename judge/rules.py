@@ -1,11 +1,11 @@
 """The tests of docs/RULES.md, written out apart from the library: which number answers a case and what it carries, and how far a done call may write its buffers.
 
 An answer is a tuple, the number first. Two numbers are the C interface's own: NO_BORDER, tested before everything else, and DIFFER, told where two bands that passed every test differ."""
-from protocol import (ANALYSE, ANALYSE_LEVELS, ANALYSE_PLANE, ANALYSIS_ANSWER, ANALYSIS_SCRATCH, BACK_ANSWER, BAND_LENGTH, BORDERS, COMPARE_BANDS, COMPARING_ANSWER,
-                      CONVOLUTION_ANSWER, CONVOLUTION_SCRATCH, CONVOLVE, HANDING_ANSWER, LARGE_PLANE, LEVEL_DETAILS, LEVEL_PART, LEVELS_ANSWER, LEVELS_SCRATCH,
+from protocol import (ANALYSE, ANALYSE_LEVELS, ANALYSE_PLANE, ANALYSIS_ANSWER, ANALYSIS_SCRATCH, BACK_ANSWER, BACK_BY_PAIRS, BAND_LENGTH, BORDERS, COMPARE_BANDS,
+                      COMPARING_ANSWER, CONVOLUTION_ANSWER, CONVOLUTION_SCRATCH, CONVOLVE, HANDING_ANSWER, LARGE_PLANE, LEVEL_DETAILS, LEVEL_PART, LEVELS_ANSWER, LEVELS_SCRATCH,
                       LINE_LENGTH, MIRROR, MOST_LEVELS, one_nan, PACKED_LENGTH, PLANE_ANALYSIS_ANSWER, PLANE_BAND_HEIGHT, PLANE_BAND_LENGTH, PLANE_BAND_WIDTH,
-                      PLANE_SCRATCH, PLANE_SYNTHESIS_ANSWER, READ_PLACE, RESTORE_LEVELS, RESTORED_LINE, RESTORING_ANSWER, RESTORING_LENGTH, SYNTHESISE,
-                      SYNTHESISE_PLANE, SYNTHESIS_ANSWER, THERE_AND_BACK)
+                      PLANE_BY_PAIRS, PLANE_SCRATCH, PLANE_SYNTHESIS_ANSWER, READ_PLACE, RESTORE_LEVELS, RESTORED_BY_PAIRS, RESTORED_LINE, RESTORING_ANSWER,
+                      RESTORING_LENGTH, SYNTHESISE, SYNTHESISE_PLANE, SYNTHESIS_ANSWER, THERE_AND_BACK, TWO_PAIRS)
 
 LIMIT = 1048576
 MOST_OF_PLANE = 16777216
@@ -126,6 +126,10 @@ def convolution_scratch(n, f, centre):
 
 def mirror(f, highs):
     return (12,) if bad_taps(f) or f != highs else (0,)
+
+
+def two_pairs(f, highs, lowbacks, highbacks):
+    return (12,) if bad_taps(f) or not f == highs == lowbacks == highbacks else (0,)
 
 
 # --- levels: a level's line is the approximations of the one before
@@ -361,6 +365,11 @@ def restoring_answer(n, f, levels, packeds, firsts, seconds):
     return answer if answer[0] else (0,)
 
 
+def alike(f, *others):
+    """How many taps four lists have in each; none where they make no bank, and 12 is the first of every test."""
+    return f if two_pairs(f, *others) == (0,) else 0
+
+
 TESTS = {
     ANALYSE: analyse,
     SYNTHESISE: synthesise,
@@ -384,6 +393,7 @@ TESTS = {
     PLANE_SCRATCH: plane_size(plane_need),
     ANALYSE_PLANE: analyse_plane,
     SYNTHESISE_PLANE: synthesise_plane,
+    TWO_PAIRS: two_pairs,
     LARGE_PLANE: large_plane,
     ANALYSIS_ANSWER: lambda f, n, approxes, details, scratches: analyse(0, f, f, n, approxes, details, scratches),
     SYNTHESIS_ANSWER: lambda f, approxes, details, outs: synthesise(f, f, approxes, details, outs),
@@ -398,6 +408,9 @@ TESTS = {
     THERE_AND_BACK: lambda border, f, highs, *lengths: back_answer(f, *lengths) if f == highs else (12,),
     LEVEL_DETAILS: lambda n, f, levels, level, packeds, _: handing_answer(n, f, levels, packeds, level),
     RESTORED_LINE: lambda n, levels, f, highs, packeds, firsts, seconds, _: restoring_answer(n, f, levels, packeds, firsts, seconds) if f == highs else (12,),
+    BACK_BY_PAIRS: lambda border, low, high, lowback, highback, _, *lengths: back_answer(alike(low, high, lowback, highback), *lengths),
+    RESTORED_BY_PAIRS: lambda n, levels, low, high, lowback, highback, _, *lengths: restoring_answer(n, alike(low, high, lowback, highback), levels, *lengths[:-1]),
+    PLANE_BY_PAIRS: lambda width, height, low, high, lowback, highback, _, *lengths: synthesise_plane(width, height, *[alike(low, high, lowback, highback)] * 2, *lengths),
 }
 
 

@@ -1,6 +1,7 @@
 """What crates/example has to print, from the rules and sums of docs/RULES.md: a label and a number, and a line for each float."""
 import sums
 from asked import bits, CLAMP, LOW8, MIRROR, MIRROR101, mirrored, REFLECT101, sevens, SUMS, times, WRAP
+from asked_pairs import FIVE_THREE
 
 
 def floats(label, numbers):
@@ -8,7 +9,7 @@ def floats(label, numbers):
 
 
 def banks():
-    return ['a bank', 'taps 4', *floats('high by the mirror rule', sums.mirror(LOW8)), 'refused 12', 'taps 0', 'refused 12', 'taps 0']
+    return ['a bank', 'taps 4', *floats('high by the mirror rule', sums.mirror(LOW8)), 'a bank', 'taps 6', *['refused 12', 'taps 0'] * 3]
 
 
 def bands():
@@ -39,6 +40,14 @@ def back(border):
     return ['there and back', *floats('out', out)]
 
 
+def by_two_pairs(border):
+    line = [5.0, -2.0, 3.0, -4.0, 9.0, 2.0, -6.0]
+    approx, detail, _ = sums.split(border, *FIVE_THREE[:2], line)
+    out = sums.joined_anew(*FIVE_THREE[2:], approx, detail)
+    assert out == times(16, line + [sums.sample(border, line, 7)])
+    return ['there and back', *floats('out', out)]
+
+
 def lines():
     returned = [line for border in (CLAMP, WRAP, REFLECT101, MIRROR, MIRROR101) for line in back(border)]
-    return [*banks(), *bands(), *parts(), *restored(2), *restored(3), *returned, 'refused 4, have 5', 'need 6', *floats('out', sevens(5))]
+    return [*banks(), *bands(), *parts(), *restored(2), *restored(3), *returned, 'refused 4, have 5', 'need 6', *floats('out', sevens(5)), *by_two_pairs(MIRROR101)]

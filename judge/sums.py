@@ -2,8 +2,8 @@
 
 Beside judge/rules.py, which has the tests. Buffers go in and out as lists of floats; OPEN is a place that the rules leave open."""
 import rules
-from protocol import (ANALYSE, ANALYSE_LEVELS, ANALYSE_PLANE, BORDERS, CONVOLVE, LEVEL_DETAILS, MIRROR, OPEN, READ_PLACE, RESTORE_LEVELS, RESTORED_LINE, SYNTHESISE,
-                      SYNTHESISE_PLANE, THERE_AND_BACK)
+from protocol import (ANALYSE, ANALYSE_LEVELS, ANALYSE_PLANE, BACK_BY_PAIRS, BORDERS, CONVOLVE, LEVEL_DETAILS, MIRROR, OPEN, PLANE_BY_PAIRS, READ_PLACE, RESTORE_LEVELS,
+                      RESTORED_BY_PAIRS, RESTORED_LINE, SYNTHESISE, SYNTHESISE_PLANE, THERE_AND_BACK)
 
 
 def folded(n, top, q):
@@ -176,6 +176,29 @@ def synthesise_plane(width, height, low, high, ll, lh, hl, hh, plane, scratch):
     return together(joined_anew(low, high, a, d) for a, d in rows), opened(width, height, len(low), scratch)
 
 
+# --- by a bank of two pairs: one for the way there, one for the way back
+
+def pairs_of(taps, low, high, lowback, highback):
+    """Both pairs, out of the list that has their lists one after another."""
+    assert low == high == lowback == highback and len(taps) == 4 * low
+    lists = cut(taps, low)
+    return lists[:2], lists[2:]
+
+
+def back_by_pairs(border, low, high, lowback, highback, taps, line, approx, detail, scratch, out):
+    there, back = pairs_of(taps, low, high, lowback, highback)
+    approx, detail, scratch = analyse(border, *there, line, approx, detail, scratch)
+    return approx, detail, scratch, joined_anew(*back, approx, detail)
+
+
+def restored_by_pairs(n, levels, low, high, lowback, highback, taps, *buffers):
+    return restored_line(n, levels, *pairs_of(taps, low, high, lowback, highback)[1], *buffers)
+
+
+def plane_by_pairs(width, height, low, high, lowback, highback, taps, *buffers):
+    return synthesise_plane(width, height, *pairs_of(taps, low, high, lowback, highback)[1], *buffers)
+
+
 DONE = {
     ANALYSE: analyse,
     SYNTHESISE: lambda low, high, approx, detail, out: (joined(low, high, approx, detail, out),),
@@ -189,6 +212,9 @@ DONE = {
     THERE_AND_BACK: there_and_back,
     LEVEL_DETAILS: lambda n, f, levels, level, packed, handed: (part(packed, n, f, levels, level),),
     RESTORED_LINE: restored_line,
+    BACK_BY_PAIRS: back_by_pairs,
+    RESTORED_BY_PAIRS: restored_by_pairs,
+    PLANE_BY_PAIRS: plane_by_pairs,
 }
 
 

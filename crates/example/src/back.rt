@@ -16,6 +16,15 @@ fn told(refusal: Synthesis) {
     }
 }
 
+fn shown(answer: Back, out: &[f64]) {
+    match answer {
+        Back::Done => show::word(b"there and back"),
+        Back::Analysis(_) => show::word(b"refused on the way there"),
+        Back::Synthesis(refusal) => told(refusal),
+    }
+    show::floats(b"out", out);
+}
+
 fn back(border: Border, out: &mut [f64]) {
     let line = [5.0, -2.0, 3.0, -4.0, 9.0];
     let mut approx = [7.0f64; 4];
@@ -29,12 +38,26 @@ fn back(border: Border, out: &mut [f64]) {
         &mut scratch,
         out,
     );
-    match answer {
-        Back::Done => show::word(b"there and back"),
-        Back::Analysis(_) => show::word(b"refused on the way there"),
-        Back::Synthesis(refusal) => told(refusal),
-    }
-    show::floats(b"out", out);
+    shown(answer, out);
+}
+
+// By a second pair: 16 times the line.
+fn by_two_pairs(border: Border) {
+    let made = banks::five_three(border);
+    let line = [5.0, -2.0, 3.0, -4.0, 9.0, 2.0, -6.0];
+    let mut approx = [7.0f64; 6];
+    let mut detail = [7.0f64; 6];
+    let mut scratch = [7.0f64; 16];
+    let mut out = [7.0f64; 8];
+    let answer = there_and_back(
+        made.bank,
+        &line,
+        &mut approx,
+        &mut detail,
+        &mut scratch,
+        &mut out,
+    );
+    shown(answer, &out);
 }
 
 pub fn returned() {
@@ -45,4 +68,5 @@ pub fn returned() {
     back(Border::Mirror101, &mut [7.0f64; 6]);
     // A refusal says why and leaves every buffer as it was.
     back(Border::Wrap, &mut [7.0f64; 5]);
+    by_two_pairs(Border::Mirror101);
 }

@@ -1,4 +1,4 @@
-// The library as Rattle code uses it: a bank by value, both bands of a line and back, levels with a part handed out and the line restored, there and back in one call.
+// The library as Rattle code uses it: a bank by value, with one pair of tap lists or two, both bands of a line and back, levels with a part handed out and the line restored, there and back in one call.
 mod back;
 mod banks;
 mod depths;

@@ -22,6 +22,13 @@ pub record MirrorTold (low high : List Float) (r : ℕ) (high′ : List Float) :
   pub given : r ≡ Banks.numberOf answer
   pub bare : Banks.valuesOf answer ≡ []
 
+-- nor does one that says whether four lists make a bank
+pub record PairsTold (low high sl sh r : ℕ) : Type 0 where
+  pub answer : Making
+  pub promised : answer ≡ Banks.answerOfFour low high sl sh
+  pub given : r ≡ Banks.numberOf answer
+  pub bare : Banks.valuesOf answer ≡ []
+
 abbrev pub AnalysisTold : ℕ → List Float → List Float → List Float → List Float → List Float → List Float → List ℕ → ℕ → List Float → List Float → List Float → List ℕ → Type 0
 AnalysisTold border low high line approx detail scratch words r approx′ detail′ scratch′ words′ =
     ToldUnder border Analyses.numberOf Analyses.valuesOf

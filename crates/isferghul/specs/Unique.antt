@@ -21,7 +21,7 @@ use Rattle.planes.specs.Lengths.{planeScratch}
 use Rattle.plane_analysis.specs.Unique.{unique-analyse-plane}
 use Rattle.plane_synthesis.specs.Unique.{unique-synthesise-plane}
 use Rattle.telling.specs.Unique.{unique-told-of, unique-told-under}
-use Rattle.isferghul.specs.Lines.{MirrorTold, AnalysisTold, SynthesisTold, ConvolutionTold}
+use Rattle.isferghul.specs.Lines.{MirrorTold, PairsTold, AnalysisTold, SynthesisTold, ConvolutionTold}
 use Rattle.isferghul.specs.Levels.{PlaceTold, LevelsTold, RestoringTold}
 use Rattle.isferghul.specs.Planes.{PlaneAnalysisTold, PlaneSynthesisTold}
 
@@ -31,6 +31,9 @@ both e q = e ∙ sym q
 
 pub unique-mirror-told : {low high : List Float} {r r′ : ℕ} {h h′ : List Float} → MirrorTold low high r h → MirrorTold low high r′ h′ → (r ≡ r′) × (h ≡ h′)
 unique-mirror-told p q = let u = unique-mirror (p .promised) (q .promised) in (p .given ∙ ap Banks.numberOf (u .0) ∙ sym (q .given), u .1)
+
+pub unique-two-pairs-told : {low high sl sh r r′ : ℕ} → PairsTold low high sl sh r → PairsTold low high sl sh r′ → r ≡ r′
+unique-two-pairs-told p q = p .given ∙ ap Banks.numberOf (both (p .promised) (q .promised)) ∙ sym (q .given)
 
 pub unique-analysis-told : {border : ℕ} {low high line approx detail scratch : List Float} {words : List ℕ} {r r′ : ℕ} {a d s a′ d′ s′ : List Float} {w w′ : List ℕ}
     → AnalysisTold border low high line approx detail scratch words r a d s w → AnalysisTold border low high line approx detail scratch words r′ a′ d′ s′ w′

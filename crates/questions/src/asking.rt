@@ -4,6 +4,7 @@ use crate::floats::same;
 use crate::on_banks;
 use crate::on_levels;
 use crate::on_lines;
+use crate::on_pairs;
 use crate::on_planes;
 use crate::on_sizes;
 use crate::parts::count;
@@ -36,8 +37,9 @@ fn group(op: usize) -> u8 {
         1 | 2 | 3 | 8 => 1,
         14..=16 => 2,
         21..=23 => 3,
-        35..=37 => 4,
-        _ => 5,
+        36..=38 => 4,
+        39..=41 => 5,
+        _ => 6,
     }
 }
 
@@ -76,6 +78,7 @@ fn ask(
         2 => on_levels::ask(words, a, b, c, d, e, carried),
         3 => on_planes::ask(words, a, b, c, d, e, f, g, h, carried),
         4 => on_banks::ask(words, a, b, c, d, e, f, g, carried),
+        5 => on_pairs::ask(words, a, b, c, d, e, f, g, carried),
         _ => on_sizes::ask(words, carried),
     }
 }

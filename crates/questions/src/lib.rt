@@ -5,6 +5,7 @@ mod on_banks;
 mod on_lengths;
 mod on_levels;
 mod on_lines;
+mod on_pairs;
 mod on_planes;
 mod on_sizes;
 mod parts;

@@ -43,7 +43,7 @@ fn level_details(words: &[u64], packed: &[f64], part: &mut [f64], carried: &mut 
 }
 
 // The restored line, and the number that stands beside it.
-fn restored_line(
+pub fn restored_line(
     words: &[u64],
     bank: Bank,
     packed: &[f64],
@@ -81,12 +81,12 @@ pub fn ask(
     carried: &mut [usize; 2],
 ) -> u64 {
     match scalar(words, 0) {
-        35 => back_told(
+        36 => back_told(
             there_and_back(made(a, b, scalar(words, 1)), c, d, e, f, g),
             carried,
         ),
-        36 => level_details(words, a, b, carried),
-        37 => restored_line(words, made(a, b, 0), c, d, e, f, carried),
+        37 => level_details(words, a, b, carried),
+        38 => restored_line(words, made(a, b, 0), c, d, e, f, carried),
         _ => crate::NO_CALL,
     }
 }

@@ -52,19 +52,19 @@ pub fn ask(words: &[u64], carried: &mut [usize; 2]) -> u64 {
     let h = scalar(words, 8);
     let i = scalar(words, 9);
     match scalar(words, 0) {
-        25 => line_telling::told::analysis(analysis_answer(a, b, c, d, e), carried),
-        26 => line_telling::told::synthesis(synthesis_answer(a, b, c, d), carried),
-        27 => line_telling::told::convolution(
+        26 => line_telling::told::analysis(analysis_answer(a, b, c, d, e), carried),
+        27 => line_telling::told::synthesis(synthesis_answer(a, b, c, d), carried),
+        28 => line_telling::told::convolution(
             convolution_answer(border_of(a), b, c, d, split(signed(words, 5)), f),
             carried,
         ),
-        28 => level_telling::told::levels(levels_answer(a, b, c, d, e), carried),
-        29 => level_telling::told::levels(restoring_answer(a, b, c, d, e, f), carried),
-        30 => handing_told(handing_answer(a, b, c, d, e), carried),
-        31 => plane_told(plane_analysis_answer(a, b, c, d, e, f, g, h, i), carried),
-        32 => plane_told(plane_synthesis_answer(a, b, c, d, e, f, g, h, i), carried),
-        33 => comparison_told(comparing_answer(a, b, c, d), carried),
-        34 => back_told(back_answer(a, b, c, d, e, f), carried),
+        29 => level_telling::told::levels(levels_answer(a, b, c, d, e), carried),
+        30 => level_telling::told::levels(restoring_answer(a, b, c, d, e, f), carried),
+        31 => handing_told(handing_answer(a, b, c, d, e), carried),
+        32 => plane_told(plane_analysis_answer(a, b, c, d, e, f, g, h, i), carried),
+        33 => plane_told(plane_synthesis_answer(a, b, c, d, e, f, g, h, i), carried),
+        34 => comparison_told(comparing_answer(a, b, c, d), carried),
+        35 => back_told(back_answer(a, b, c, d, e, f), carried),
         _ => crate::NO_CALL,
     }
 }

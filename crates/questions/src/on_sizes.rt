@@ -4,6 +4,7 @@ use crate::parts::signed;
 use isferghul::depths;
 use isferghul::planar;
 use isferghul::sizes;
+use isferghul::taps;
 
 pub fn ask(words: &[u64], told: &mut [usize; 2]) -> u64 {
     let first = scalar(words, 1);
@@ -23,6 +24,7 @@ pub fn ask(words: &[u64], told: &mut [usize; 2]) -> u64 {
         18 => planar::isferghul_plane_band_height(first, second, third, told),
         19 => planar::isferghul_plane_band_length(first, second, third, told),
         20 => planar::isferghul_plane_scratch(first, second, third, told),
+        24 => taps::isferghul_two_pairs(first, second, third, scalar(words, 4)),
         _ => crate::on_lengths::ask(words, told),
     }
 }
