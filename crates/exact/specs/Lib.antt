@@ -1,4 +1,4 @@
--- Restoring is exact. Definitions: Restoring, the statement; Classes, the condition of four lists; Backs, what running there and back promises.
+-- Restoring is exact. Definitions: Restoring, both statements; Classes, the condition of four lists; Backs, what running there and back promises.
 -- Laws: Weights, Moved, Distances, Reach, Identity, Signs, Mirror, Bounds, Four, Exact, the proof; Made, of banks; Entries, Calls, Unique, of the code.
 pub mod Restoring
 pub mod Classes

@@ -22,7 +22,7 @@ pub record MirrorTold (low high : List Float) (r : ℕ) (high′ : List Float) :
   pub given : r ≡ Banks.numberOf answer
   pub bare : Banks.valuesOf answer ≡ []
 
--- nor does one that says whether four lists make a bank
+-- an answer whether four lists make a bank carries nothing either
 pub record PairsTold (low high sl sh r : ℕ) : Type 0 where
   pub answer : Making
   pub promised : answer ≡ Banks.answerOfFour low high sl sh
