@@ -19,6 +19,11 @@ def above(pair):
     return rust is not None and ours > rust
 
 
+def ratio(pair):
+    rust, ours = pair
+    return ours / rust
+
+
 def growths(costs, case):
     """How many times what n samples cost 4n cost, the Rust and here; nothing where 4n was not measured."""
     op, border, f, n = case

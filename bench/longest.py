@@ -4,8 +4,8 @@ import sys
 import cases
 import figures
 
-ROW = '%-9s %-10s %-5s' + ' %5s' * len(cases.SHORTEST) + ' %s'
-HEAD = '%-26s %47s'
+ROW = '%-12s %-10s %-5s' + ' %5s' * len(cases.SHORTEST) + ' %s'
+HEAD = '%-29s %47s'
 
 
 def rows(costs):
@@ -19,7 +19,7 @@ def line(costs, row, name, side):
     pairs = [costs.get((op, border, cases.KERNEL, n), (None, None)) for n in cases.SHORTEST]
     told = ['' if pair[side] is None else '%d' % pair[side] for pair in pairs]
     above = sum(map(figures.above, pairs)) if side else 0
-    return ROW % (cases.TITLES[op], border, name, *told, '%d above' % above if above else '') if any(told) else None
+    return ROW % (cases.title(op), border, name, *told, '%d above' % above if above else '') if any(told) else None
 
 
 def table(costs):

@@ -7,6 +7,8 @@ mod our_side;
 mod rust_side;
 mod work;
 
+use oracle::made::Made;
+use our_side::Ours;
 use rust_side::Returned;
 use std::time::Instant;
 use work::{BORDERS, Case, OPS, Work, repeated};
@@ -21,18 +23,24 @@ fn number(text: &str) -> usize {
 }
 
 fn case(op: &str, border: &str, f: &str, n: &str) -> Case {
+    let wide = op.strip_suffix("-f32");
+    let (op, narrow) = (wide.unwrap_or(op), wide.is_some());
     let op = OPS.iter().find(|(name, _)| *name == op).map_or_else(|| stop("no such operation"), |(_, op)| *op);
     let border = BORDERS.iter().position(|name| *name == border).unwrap_or_else(|| stop("no such border"));
-    Case { op, border, f: number(f), n: number(n) }
+    Case { op, narrow, border, f: number(f), n: number(n) }
 }
 
-/// Makes a case, hands its call to what runs it, and gives what the call's caller is given.
-fn with_calls(side: &str, case: Case, run: impl FnOnce(&mut dyn FnMut(usize))) -> Vec<f64> {
-    let mut w = Work::new(case);
+/// Makes a case, hands its call to what runs it, and gives what the call's caller is given, as bits.
+fn with_calls(side: &str, case: Case, run: impl FnOnce(&mut dyn FnMut(usize))) -> Vec<u64> {
+    if case.narrow { with_calls_of::<f32>(side, case, run) } else { with_calls_of::<f64>(side, case, run) }
+}
+
+fn with_calls_of<T: Made + Ours>(side: &str, case: Case, run: impl FnOnce(&mut dyn FnMut(usize))) -> Vec<u64> {
+    let mut w = Work::<T>::new(case);
     let mut returned = Returned::default();
     match side {
         "rust" => run(&mut *repeated(rust_side::call(case, &mut w, &mut returned))),
-        "ours" => run(&mut *our_side::calls(case, &mut w)),
+        "ours" => run(&mut *T::calls(case, &mut w)),
         _ => stop("a side is rust or ours"),
     }
     returned.put(&mut w);
@@ -43,7 +51,7 @@ fn check(case: Case) {
     // by bank it is the second call that is counted
     let times = if case.by_bank() { 2 } else { 1 };
     let [x, y] = ["rust", "ours"].map(|side| with_calls(side, case, |calls| calls(times)));
-    let differ = x.len().abs_diff(y.len()) + x.iter().zip(&y).filter(|(x, y)| x.to_bits() != y.to_bits()).count();
+    let differ = x.len().abs_diff(y.len()) + x.iter().zip(&y).filter(|(x, y)| x != y).count();
     println!("{} {differ}", x.len());
 }
 

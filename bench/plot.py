@@ -1,16 +1,17 @@
 """Draws the ratios of counts.   plot.py COUNTS SVG
 
-A line for each operation, border and number of taps; on it a dot for each size, left of 1 where this library executes fewer instructions than the Rust."""
+A line for each operation, border and number of taps; on it a dot for each size, left of 1 where this library executes fewer instructions than the Rust, and a
+diamond for the largest of 32-bit floats."""
 import sys
 
 import cases
 import figures
 
-WIDTH, LEFT, TOP, HIGH, GAP = 916, 256, 124, 18, 12
+WIDTH, LEFT, TOP, HIGH, GAP = 916, 256, 136, 18, 12
 FROM, TO, ACROSS = 0.1, 1.2, 484
 RATIOS = LEFT + ACROSS + 60
 GROWTHS = RATIOS + 90
-INK, PALE, OURS, WORSE = '#1b1b1b', '#666666', '#1f5fa8', '#c23b22'
+INK, PALE, OURS, NARROW, WORSE = '#1b1b1b', '#666666', '#1f5fa8', '#d98a1f', '#c23b22'
 
 
 def text(x, y, words, colour=INK, size=13, anchor='start', weight='normal'):
@@ -30,8 +31,18 @@ def dot(x, y, filled, colour):
     return '<circle cx="%.1f" cy="%g" r="%g" fill="%s" stroke="%s" stroke-width="1.5"/>' % (x, y, 5 if filled else 4, colour if filled else '#ffffff', colour)
 
 
-def colour(ratio):
-    return WORSE if ratio > 1 else OURS
+def diamond(x, y, colour):
+    return '<path d="M%.1f %gl5 5l-5 5l-5 -5z" fill="#ffffff" stroke="%s" stroke-width="1.5"/>' % (x, y - 5, colour)
+
+
+def colour(ratio, usual=OURS):
+    return WORSE if ratio > 1 else usual
+
+
+def narrow(costs, case, y):
+    """The same of 32-bit floats, where there is such a case."""
+    ratios = [figures.ratio(costs[of]) for of in [cases.narrowed(case)] if of in costs]
+    return [diamond(across(ratio), y, colour(ratio, NARROW)) for ratio in ratios]
 
 
 def name(group, row):
@@ -42,18 +53,19 @@ def name(group, row):
 
 def title(group):
     op, _, f = group[0]
-    return '%s by %d taps' % (cases.TITLES[op], f) if cases.bordered(group) else cases.TITLES[op]
+    return '%s by %d taps' % (cases.title(op), f) if cases.bordered(group) else cases.title(op)
 
 
 def line_of(costs, group, row, y):
     """The dots of one row, by size; the largest is filled, drawn last and told in words."""
     sizes = cases.sizes(group)
-    ratios = [costs[(*row, n)][1] / costs[(*row, n)][0] for n in sizes]
+    ratios = [figures.ratio(costs[(*row, n)]) for n in sizes]
     growth = figures.growths(costs, (*row, sizes[-2]))[1]
     return [
         text(LEFT - 16, y + 4, name(group, row), PALE, anchor='end'),
         stroke(across(min(ratios)), y, across(max(ratios)), y, '#b9c9dd', 2),
         *[dot(across(ratio), y, n == sizes[-1], colour(ratio)) for n, ratio in zip(sizes, ratios)],
+        *narrow(costs, (*row, sizes[-1]), y),
         text(RATIOS, y + 4, '%.2f' % ratios[-1], colour(ratios[-1]), anchor='end'),
         text(GROWTHS, y + 4, '%.2f' % growth, PALE, anchor='end'),
     ]
@@ -88,6 +100,8 @@ def heads():
         text(586, 54, '16,384 samples, or 4,096 x 4,096', PALE),
         dot(576, 70, False, OURS),
         text(586, 74, 'fewer, from 64, or from 512 x 512', PALE),
+        diamond(576, 90, NARROW),
+        text(586, 94, '16,384 samples of 32-bit floats', PALE),
         text(LEFT - 16, TOP - 22, 'taps, or border', PALE, 12, 'end'),
         text(RATIOS, TOP - 22, 'filled dot', PALE, 12, 'end'),
         text(GROWTHS, TOP - 22, 'n to 4n', PALE, 12, 'end'),

@@ -1,4 +1,5 @@
-"""Says how many cases take more than they may: one by bank more than a copy above the export, a mirror more than Reflect, any case more than the Rust.   verdict.py FIGURES.."""
+"""Says how many cases take more than they may: one by bank more than a copy above the export, a mirror more than Reflect, one of 32-bit floats a larger part of
+the Rust than the same of 64-bit ones, any case more than the Rust.   verdict.py FIGURES.."""
 import sys
 
 import cases
@@ -10,7 +11,7 @@ COPY = 256
 
 def by_lists(case):
     op, border, f, n = case
-    return op.removesuffix(cases.BY_BANK), border, f, n
+    return op.replace(cases.BY_BANK, ''), border, f, n
 
 
 def by_reflect(case):
@@ -18,12 +19,21 @@ def by_reflect(case):
     return op, cases.REFLECT, f, n
 
 
-def against(costs, chosen, other, more, name):
-    """Each chosen case against its other one; those that take more than so many instructions above it are named. How many there are of both."""
-    pairs = [(costs[case][1], costs[other(case)][1], case) for case in costs if chosen(case)]
+def of_wide(case):
+    op, *rest = case
+    return cases.wide(op), *rest
+
+
+def ours(pair):
+    return pair[1]
+
+
+def against(costs, chosen, other, more, name, figure=ours, told='%d'):
+    """Each chosen case against its other one; those with a figure that is more than so much above the other's are named. How many there are of both."""
+    pairs = [(figure(costs[case]), figure(costs[other(case)]), case) for case in costs if chosen(case)]
     above = [pair for pair in pairs if pair[0] > pair[1] + more]
-    for ours, others, (op, border, f, n) in above:
-        print('above %s: %s, %s, %d taps, n = %d: %d against %d' % (name, cases.TITLES[op], border, f, n, ours, others))
+    for of_it, of_other, (op, border, f, n) in above:
+        print(('above %s: %s, %s, %d taps, n = %d: ' + told + ' against ' + told) % (name, cases.title(op), border, f, n, of_it, of_other))
     return len(pairs), len(above)
 
 
@@ -35,6 +45,11 @@ def mirrors(costs):
     print('mirrors: %d cases, %d above Reflect' % against(costs, lambda case: case[1] in cases.MIRRORS, by_reflect, 0, 'Reflect'))
 
 
+def narrow(costs):
+    counts = against(costs, lambda case: cases.narrow(case[0]) and cases.rust_has(case), of_wide, 0, 'the ratio of f64', figures.ratio, '%.4f')
+    print('f32: %d cases, %d above the ratio of f64' % counts)
+
+
 def rust(costs):
     pairs = [pair for pair in costs.values() if pair[0] is not None]
     print('%d cases, %d above the Rust' % (len(pairs), sum(map(figures.above, pairs))))
@@ -44,4 +59,5 @@ if __name__ == '__main__':
     read = {case: pair for path in sys.argv[1:] for case, pair in figures.read(path).items()}
     banks(read)
     mirrors(read)
+    narrow(read)
     rust(read)

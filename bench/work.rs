@@ -42,6 +42,8 @@ pub const FARTHEST: i64 = 63;
 #[derive(Clone, Copy)]
 pub struct Case {
     pub op: Op,
+    /// Whether its numbers have 32 bits.
+    pub narrow: bool,
     /// The border's number.
     pub border: usize,
     /// Taps of either list, or of the kernel.
@@ -74,24 +76,51 @@ pub fn repeated(mut call: Call<'_>) -> Calls<'_> {
     Box::new(move |times| (0..times).for_each(|_| call()))
 }
 
-#[derive(Default)]
-pub struct Work {
-    pub low: Vec<f64>,
-    pub high: Vec<f64>,
-    /// The line or the plane that is split or convolved.
-    pub line: Vec<f64>,
-    /// The two bands of a line, or the four of a plane.
-    pub bands: Vec<Vec<f64>>,
-    /// Details level by level, then the last approximations.
-    pub packed: Vec<f64>,
-    /// What is joined or convolved; restoring's first buffer.
-    pub out: Vec<f64>,
-    /// Restoring's second buffer.
-    pub second: Vec<f64>,
-    pub scratch: Vec<f64>,
+/// A width of numbers.
+pub trait Float: Copy + Default {
+    /// The nearest number of this width.
+    fn nearest(number: f64) -> Self;
+    fn bits(self) -> u64;
 }
 
-/// Numbers from -1/2 to below 1/2, one after another.
+impl Float for f64 {
+    fn nearest(number: f64) -> f64 {
+        number
+    }
+
+    fn bits(self) -> u64 {
+        self.to_bits()
+    }
+}
+
+impl Float for f32 {
+    fn nearest(number: f64) -> f32 {
+        number as f32
+    }
+
+    fn bits(self) -> u64 {
+        self.to_bits().into()
+    }
+}
+
+#[derive(Default)]
+pub struct Work<T> {
+    pub low: Vec<T>,
+    pub high: Vec<T>,
+    /// The line or the plane that is split or convolved.
+    pub line: Vec<T>,
+    /// The two bands of a line, or the four of a plane.
+    pub bands: Vec<Vec<T>>,
+    /// Details level by level, then the last approximations.
+    pub packed: Vec<T>,
+    /// What is joined or convolved; restoring's first buffer.
+    pub out: Vec<T>,
+    /// Restoring's second buffer.
+    pub second: Vec<T>,
+    pub scratch: Vec<T>,
+}
+
+/// Numbers from -1/2 to 1/2, one after another.
 struct Numbers(u64);
 
 impl Numbers {
@@ -101,14 +130,14 @@ impl Numbers {
         f64::from_bits(0x3FF << 52 | self.0 >> 12) - 1.5
     }
 
-    fn list(&mut self, count: usize) -> Vec<f64> {
-        (0..count).map(|_| self.next()).collect()
+    fn list<T: Float>(&mut self, count: usize) -> Vec<T> {
+        (0..count).map(|_| T::nearest(self.next())).collect()
     }
 }
 
 /// A buffer to be written. It holds something already, so that a place left out or added onto shows.
-fn held(count: usize) -> Vec<f64> {
-    vec![0.25; count]
+fn held<T: Float>(count: usize) -> Vec<T> {
+    vec![T::nearest(0.25); count]
 }
 
 /// How long a band of n samples by f taps is.
@@ -130,8 +159,8 @@ fn packed(n: usize, f: usize) -> usize {
     whole + last
 }
 
-impl Work {
-    pub fn new(case: Case) -> Work {
+impl<T: Float> Work<T> {
+    pub fn new(case: Case) -> Work<T> {
         let Case { op, f, n, .. } = case;
         let mut numbers = Numbers(1);
         let mut w = Work { low: numbers.list(f), high: numbers.list(f), ..Work::default() };
@@ -150,12 +179,13 @@ impl Work {
         w
     }
 
-    /// All that the case's caller is given.
-    pub fn given(&self, op: Op) -> Vec<f64> {
-        match op {
+    /// All that the case's caller is given, as bits.
+    pub fn given(self, op: Op) -> Vec<u64> {
+        let given = match op {
             Op::Analysis | Op::AnalysisByBank | Op::PlaneAnalysis => self.bands.concat(),
-            Op::Levels => self.packed.clone(),
-            _ => self.out.clone(),
-        }
+            Op::Levels => self.packed,
+            _ => self.out,
+        };
+        given.into_iter().map(T::bits).collect()
     }
 }

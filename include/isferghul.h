@@ -1,4 +1,4 @@
-/* Isferghul: a wavelet filter bank for lines and planes of 64-bit floats. Link with libisferghul.a (x86-64).
+/* Isferghul: a wavelet filter bank for lines and planes of 64-bit floats, and for lines of 32-bit floats. Link with libisferghul.a (x86-64).
  *
  * Every function answers for every input and always returns. It gives a number back: 0 is done, 27 is the other answer of comparing, any other is a refusal:
  *
@@ -77,6 +77,22 @@ uint64_t isferghul_synthesise(const double *low, size_t lows, const double *high
    with the padded line and is as it was beyond it. Refuses by 26, 11, 6, 7, 5, 8, 13. */
 uint64_t isferghul_convolve(size_t border, const double *line, size_t samples, double *out, size_t outs, double *scratch, size_t scratches,
                             const double *kernel, size_t taps, int64_t centre, size_t carried[2]);
+
+/* Lines of 32-bit floats, for half the bytes of every list: the same four calls, told _f32, with the same rules, refusals and order of sums, each product and
+   each sum rounded to 32 bits. Lengths count numbers, whatever their width: isferghul_band_length, isferghul_line_length, isferghul_analysis_scratch,
+   isferghul_convolution_scratch and isferghul_two_pairs answer for these lines too. Levels and planes have 64-bit floats alone. */
+uint64_t isferghul_mirror_f32(const float *low, size_t lows, float *high, size_t highs);
+
+uint64_t isferghul_analyse_f32(size_t border, const float *low, size_t lows, const float *high, size_t highs,
+                               const float *line, size_t samples, float *approx, size_t approxes, float *detail, size_t details,
+                               float *scratch, size_t scratches, size_t carried[2]);
+
+uint64_t isferghul_synthesise_f32(const float *low, size_t lows, const float *high, size_t highs,
+                                  const float *approx, size_t approxes, const float *detail, size_t details,
+                                  float *out, size_t outs, size_t carried[2]);
+
+uint64_t isferghul_convolve_f32(size_t border, const float *line, size_t samples, float *out, size_t outs, float *scratch, size_t scratches,
+                                const float *kernel, size_t taps, int64_t centre, size_t carried[2]);
 
 /* Several levels. Each splits the approximations of the one before: (n + f - 1) / 2 details and as many approximations come of n samples by f taps.
    The packed buffer holds details 1, details 2 and so on, then the last approximations. Levels 0 and 1 mean one level. */

@@ -5,7 +5,7 @@ some worked by hand, are asserted here. A list that is lent begins as sevens, or
 import rules
 import sums
 from protocol import (ANALYSE, ANALYSE_LEVELS, ANALYSE_PLANE, ANALYSIS_ANSWER, ANALYSIS_SCRATCH, BACK_ANSWER, BAND_LENGTH, bits_of, BORDERS, Case, CONVOLUTION_ANSWER,
-                      CONVOLUTION_SCRATCH, CONVOLVE, LINE_LENGTH, MIRROR as MIRROR_RULE, MIRRORS, one_nan, OPEN, RESTORE_LEVELS, SYNTHESIS_ANSWER, SYNTHESISE,
+                      CONVOLUTION_SCRATCH, CONVOLVE, LINE_LENGTH, MIRROR as MIRROR_RULE, MIRRORS, OPEN, RESTORE_LEVELS, SHAPES, SYNTHESIS_ANSWER, SYNTHESISE,
                       SYNTHESISE_PLANE, THERE_AND_BACK)
 from rules import LIMIT
 
@@ -18,11 +18,12 @@ ASKED = []
 
 
 def ask(name, op, scalars=(), *lists):
-    case = Case(op, tuple(scalars), [bits_of(numbers) for numbers in lists])
+    width = SHAPES[op].width
+    case = Case(op, tuple(scalars), [width.bits_of(numbers) for numbers in lists])
     answer = rules.answer(case)
     left = sums.after(op, scalars, lists) if answer[0] == 0 else [lists[i] for i in case.shape().lent]
-    held = [[OPEN if x is OPEN else one_nan(bits(x)) for x in numbers] for numbers in left]
-    given = [[one_nan(word) for word in case.lists[i]] for i in case.shape().lent]
+    held = [[OPEN if x is OPEN else width.one_nan(width.bits_of([x])[0]) for x in numbers] for numbers in left]
+    given = [[width.one_nan(word) for word in case.lists[i]] for i in case.shape().lent]
     # what is as it was is told with the bits that it had
     held = [list(case.lists[i]) if now == was else now for i, now, was in zip(case.shape().lent, held, given)]
     ASKED.append((name, case, answer, held))
@@ -103,12 +104,12 @@ def lists_of_taps():
 
 # --- borders, as convolution leaves them in its scratch
 
-def pads(name, border, line, left, right, beyond):
+def pads(name, border, line, left, right, beyond, op=CONVOLVE):
     """A kernel that takes the padded line as it is: of as many taps as there are pads, about a centre that gives the left one."""
     f = left + right
     centre = f // 2 - left - (1 if f % 2 == 0 else 0)
     n = len(line)
-    answer, (_, scratch) = ask(name, CONVOLVE, (border, centre), line, sevens(n), sevens(n + f + beyond), ones(f))
+    answer, (_, scratch) = ask(name, op, (border, centre), line, sevens(n), sevens(n + f + beyond), ones(f))
     assert answer == (0,) and rules.pads(f, centre) == (left, right)
     return scratch[:n + f]
 
@@ -145,16 +146,16 @@ def mirrors():
 
 # --- one line
 
-def analysed(name, border, bank, line, beyond=0, there=sevens):
+def analysed(name, border, bank, line, beyond=0, there=sevens, op=ANALYSE):
     f, n = len(bank[0]), len(line)
     m = rules.band(n, f)
-    answer, left = ask(name, ANALYSE, (border,), *bank, line, there(m), there(m), there(rules.padded_length(n, f) + beyond))
+    answer, left = ask(name, op, (border,), *bank, line, there(m), there(m), there(rules.padded_length(n, f) + beyond))
     assert answer == (0,), name
     return left
 
 
-def synthesised(name, bank, approx, detail, out):
-    answer, (out,) = ask(name, SYNTHESISE, (), *bank, approx, detail, out)
+def synthesised(name, bank, approx, detail, out, op=SYNTHESISE):
+    answer, (out,) = ask(name, op, (), *bank, approx, detail, out)
     assert answer == (0,), name
     return out
 
@@ -186,8 +187,8 @@ def lines():
     synthesised('32 pairs, 64 taps, all 1', wide, ones(32), [0.0] * 32, [0.0] * 2)
 
 
-def convolved(name, border, line, kernel, centre, scratch):
-    return ask(name, CONVOLVE, (border, centre), line, sevens(len(line)), sevens(scratch), kernel)
+def convolved(name, border, line, kernel, centre, scratch, op=CONVOLVE):
+    return ask(name, op, (border, centre), line, sevens(len(line)), sevens(scratch), kernel)
 
 
 def kernels():
@@ -300,19 +301,20 @@ def whole(x):
     return int(x)
 
 
-def premises(low, high, line):
+def premises(low, high, line, exact):
+    """With every whole number up to `exact` a float."""
     f, T, A = len(low), sum(abs(whole(t)) for t in low), max(1, max(abs(whole(x)) for x in line))
-    return (high == sums.mirror(low) and f <= len(line) <= LIMIT and 2 * A * T**2 <= 2**53
+    return (high == sums.mirror(low) and f <= len(line) <= LIMIT and 2 * A * T**2 <= exact
             and all(sum(low[j] * low[j + k] for j in range(f - k)) == 0 for k in range(2, f, 2)))
 
 
-def returned(name, border, bank, line, beyond=0):
+def returned(name, border, bank, line, beyond=0, op=THERE_AND_BACK):
     f, n = len(bank[0]), len(line)
     m = rules.band(n, f)
-    answer, left = ask(name, THERE_AND_BACK, (border,), *bank, line, sevens(m), sevens(m), sevens(rules.padded_length(n, f) + beyond), sevens(rules.joined_length(m, f)))
+    answer, left = ask(name, op, (border,), *bank, line, sevens(m), sevens(m), sevens(rules.padded_length(n, f) + beyond), sevens(rules.joined_length(m, f)))
     S, out = sum(whole(t)**2 for t in bank[0]), [whole(x) for x in left[-1]]
     assert answer == (0,)
-    return premises(*bank, line), out == [S * whole(sums.sample(border, line, i)) for i in range(n + n % 2)], out
+    return premises(*bank, line, SHAPES[op].width.exact), out == [S * whole(sums.sample(border, line, i)) for i in range(n + n % 2)], out
 
 
 def there_and_back():

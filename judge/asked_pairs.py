@@ -2,7 +2,8 @@
 import rules
 import sums
 from asked import APART, ask, CLAMP, counted, eights, EVERY, every, HUGE, INF, NAN, ones, REFLECT, refused, sevens, SUMS, TENS, times, whole, WRAP
-from protocol import BACK_BY_PAIRS, BORDERS, PLANE_BY_PAIRS, RESTORED_BY_PAIRS, TWO_PAIRS
+from protocol import BACK_BY_PAIRS, BORDERS, PLANE_BY_PAIRS, RESTORED_BY_PAIRS, SHAPES, TWO_PAIRS
+from widths import WIDE
 
 # The 5/3 bank filled to six taps and the spline bank 3/3 to eight: low, high, then both of the way back.
 FIVE_THREE = ([-1.0, 2.0, 6.0, 2.0, -1.0, 0.0], [0.0, 0.0, -1.0, 2.0, -1.0, 0.0], [0.0, 1.0, 2.0, 1.0, 0.0, 0.0], [0.0, -1.0, -2.0, 6.0, -2.0, -1.0])
@@ -49,19 +50,20 @@ def restores(bank):
     return all(weight(bank, e, d) == (0 if d else S) for e in (0, 1) for d in range(1 - f, f))
 
 
-def bounded(lists, line):
+def bounded(lists, line, exact=WIDE.exact):
+    """With every whole number up to `exact` a float."""
     T, A = max(sum(abs(whole(t)) for t in taps) for taps in lists), max(1, max(abs(whole(x)) for x in line))
-    return 2 * A * T**2 <= 2**53
+    return 2 * A * T**2 <= exact
 
 
-def returned(name, border, bank, line, beyond=0, held=7.0):
+def returned(name, border, bank, line, beyond=0, held=7.0, op=BACK_BY_PAIRS):
     f, n = len(bank[0]), len(line)
     m = rules.band(n, f)
-    answer, left = ask('there and back by two pairs, ' + name, BACK_BY_PAIRS, (border, *told(bank)), sum(bank, []), line,
+    answer, left = ask('there and back by two pairs, ' + name, op, (border, *told(bank)), sum(bank, []), line,
                        *([held] * length for length in (m, m, rules.padded_length(n, f) + beyond, rules.joined_length(m, f))))
     S, out = weight(bank, 0, 0), [whole(x) for x in left[-1]]
     assert answer == (0,)
-    return restores(bank) and bounded(bank, line), out == [S * whole(sums.sample(border, line, i)) for i in range(n + n % 2)], out
+    return restores(bank) and bounded(bank, line, SHAPES[op].width.exact), out == [S * whole(sums.sample(border, line, i)) for i in range(n + n % 2)], out
 
 
 # By hand, S being -16: behind 5 0 3 -4 9 2 -6 stands -6 under Clamp, Reflect and Mirror, 5 under Wrap, zero under Zeros, 2 under Reflect101 and Mirror101.

@@ -21,7 +21,7 @@ def compared(width, height, first, second):
 def other(rng, word):
     """Another number, often a single bit away; a NaN is no other NaN."""
     while True:
-        drawn = rng.choice((word ^ 1, word ^ 2**63, word ^ 1 << rng.randrange(64), rng.choice(floats.SPECIALS)))
+        drawn = rng.choice((word ^ 1, word ^ 2**63, word ^ 1 << rng.randrange(64), rng.choice(floats.SPECIALS[rng.width])))
         if rules.one_nan(drawn) != rules.one_nan(word):
             return drawn
 
@@ -56,7 +56,7 @@ def small(rng):
 
 
 def pairs_of_specials(rng):
-    for x, y in itertools.product(floats.SPECIALS, repeat=2):
+    for x, y in itertools.product(floats.SPECIALS[rng.width], repeat=2):
         yield compared(1, 1, array.array('Q', [x]), array.array('Q', [y]))
 
 

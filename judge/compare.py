@@ -9,7 +9,6 @@ they do."""
 import argparse
 import collections
 import os
-import random
 import shlex
 import subprocess
 import sys
@@ -21,6 +20,7 @@ import plane_cases
 import protocol
 import rows
 import rules
+from floats import Chance
 
 BATCH_CASES = 10000
 BATCH_NUMBERS = 12000000
@@ -173,7 +173,7 @@ def back_again(rng, batch, rust):
 
 
 def run_kind(sides, tally, name, count, cases):
-    done, started, rng = 0, time.monotonic(), random.Random(name)
+    done, started, rng = 0, time.monotonic(), Chance(name)
     for batch in batches(cases):
         rust = run_batch(sides, tally, name, batch)
         if name == kinds.ROUNDS:
@@ -185,7 +185,7 @@ def run_kind(sides, tally, name, count, cases):
 def arguments():
     parser = argparse.ArgumentParser(description=__doc__.splitlines()[0])
     parser.add_argument('--seed', type=int, default=1)
-    parser.add_argument('--cases', type=int, default=200000)
+    parser.add_argument('--cases', type=int, default=300000)
     for name in ('work', 'differences', 'driver', 'host'):
         parser.add_argument('--' + name, required=True)
     return parser.parse_args()

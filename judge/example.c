@@ -1,4 +1,5 @@
-/* A small program over the library: P8 and P9 of docs/RULES.md, and a bank of two pairs. What it has to print stands in example.txt, worked out from the rules. */
+/* A small program over the library: P8 and P9 of docs/RULES.md, a bank of two pairs, and a line of 32-bit floats. What it has to print stands in example.txt,
+   worked out from the rules. */
 #include "isferghul.h"
 #include <stdio.h>
 #include <stdlib.h>
@@ -11,6 +12,11 @@
 #define SIX 6
 #define SIX_BAND 5
 #define SIX_SCRATCH 14
+/* of the 32-bit floats */
+#define FIVE 5
+#define FIVE_BAND 4
+#define FIVE_SCRATCH 10
+#define FIVE_JOINED 6
 
 /* Ends the program where a call did not do what is expected of it. */
 static void must_be(uint64_t number, uint64_t expected, const char *what) {
@@ -22,6 +28,13 @@ static void must_be(uint64_t number, uint64_t expected, const char *what) {
 static void print(const char *what, const double *list, size_t count) {
     size_t i;
     printf("%s", what);
+    for (i = 0; i < count; i++) printf(" %g", list[i]);
+    printf("\n");
+}
+
+static void print_f32(const char *what, const float *list, size_t count) {
+    size_t i;
+    printf("%s, 32 bits", what);
     for (i = 0; i < count; i++) printf(" %g", list[i]);
     printf("\n");
 }
@@ -41,6 +54,27 @@ static void by_two_pairs(void) {
     print("details by one pair", detail, SIX_BAND);
     must_be(isferghul_synthesise(lowback, SIX, highback, SIX, approx, SIX_BAND, detail, SIX_BAND, joined, SIX, carried), 0, "synthesise by the other");
     print("joined by the other", joined, SIX);
+}
+
+/* Five samples there and back, and with a kernel, in floats of 32 bits. Lengths have no width: they are asked of the same calls. */
+static void of_32_bits(void) {
+    const float low[TAPS] = {3, 6, 2, -1}, line[FIVE] = {1, 2, 3, 4, 5}, kernel[3] = {1, 10, 100};
+    float high[TAPS], approx[FIVE_BAND], detail[FIVE_BAND], scratch[FIVE_SCRATCH], joined[FIVE_JOINED] = {0, 0, 0, 0, 0, 0}, out[FIVE];
+    size_t carried[2];
+
+    must_be(isferghul_band_length(FIVE, TAPS, carried), 0, "band length of 5");
+    printf("band length of 5 samples %lu\n", (unsigned long)carried[0]);
+    must_be(isferghul_line_length(FIVE_BAND, TAPS, carried), 0, "line length of 4");
+    printf("line length of 4 pairs %lu\n", (unsigned long)carried[0]);
+    must_be(isferghul_mirror_f32(low, TAPS, high, TAPS), 0, "mirror, 32 bits");
+    print_f32("high taps", high, TAPS);
+    must_be(isferghul_analyse_f32(ISFERGHUL_ZEROS, low, TAPS, high, TAPS, line, FIVE, approx, FIVE_BAND, detail, FIVE_BAND, scratch, FIVE_SCRATCH, carried), 0, "analyse, 32 bits");
+    print_f32("approximations", approx, FIVE_BAND);
+    print_f32("details", detail, FIVE_BAND);
+    must_be(isferghul_synthesise_f32(low, TAPS, high, TAPS, approx, FIVE_BAND, detail, FIVE_BAND, joined, FIVE_JOINED, carried), 0, "synthesise, 32 bits");
+    print_f32("joined", joined, FIVE_JOINED);
+    must_be(isferghul_convolve_f32(ISFERGHUL_ZEROS, line, FIVE, out, FIVE, scratch, FIVE_SCRATCH, kernel, 3, 0, carried), 0, "convolve, 32 bits");
+    print_f32("convolved", out, FIVE);
 }
 
 int main(void) {
@@ -79,5 +113,6 @@ int main(void) {
     print("still", out, SAMPLES);
 
     by_two_pairs();
+    of_32_bits();
     return 0;
 }

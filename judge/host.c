@@ -17,11 +17,11 @@ struct words {
     size_t count, room;
 };
 
-/* A list as the case gives it, and the place where the library sees it. */
+/* A list as the case gives it, and the place where the library sees it: floats of so many bytes, each by the low bytes of its word. */
 struct list {
     const uint64_t *given;
-    double *seen;
-    size_t count;
+    void *seen;
+    size_t count, bytes;
 };
 
 void stop(const char *why) {
@@ -56,32 +56,49 @@ static uint64_t next(const struct words *in, size_t *at) {
     return in->at[(*at)++];
 }
 
-/* Lays the lists out, guard words in front of each and behind it. */
+/* The bits of one of its floats. */
+static uint64_t word_of(const struct list *l, size_t i) {
+    uint32_t narrow;
+    if (l->bytes == sizeof(double)) return word_at(l->seen, i);
+    memcpy(&narrow, (const float *)l->seen + i, sizeof narrow);
+    return narrow;
+}
+
+/* Its floats, as the case gives them. */
+static void fill(const struct list *l) {
+    if (l->count && l->bytes == sizeof(double)) memcpy(l->seen, l->given, l->count * sizeof(double));
+    if (l->bytes == sizeof(float))
+        for (size_t i = 0; i < l->count; i++) memcpy((float *)l->seen + i, l->given + i, sizeof(float));
+}
+
+/* Lays the lists out among guard bytes, some in front of each and behind it. */
 static void lay_out(struct words *arena, struct list *list, int lists) {
-    size_t need = GUARDS;
-    for (int i = 0; i < lists; i++) need += list[i].count + GUARDS;
+    size_t need = GUARD_BYTES;
+    for (int i = 0; i < lists; i++) need += list[i].count * list[i].bytes + GUARD_BYTES;
     arena->count = 0;
-    reserve(arena, need);
-    for (int g = 0; g < GUARDS; g++) put(arena, GUARD);
+    reserve(arena, need / sizeof *arena->at + 1);
+    memset(arena->at, GUARD_BYTE, need);
+    char *at = (char *)arena->at + GUARD_BYTES;
     for (int i = 0; i < lists; i++) {
-        list[i].seen = (double *)(void *)(arena->at + arena->count);
-        if (list[i].count) memcpy(list[i].seen, list[i].given, list[i].count * sizeof(uint64_t));
-        arena->count += list[i].count;
-        for (int g = 0; g < GUARDS; g++) put(arena, GUARD);
+        list[i].seen = at;
+        fill(&list[i]);
+        at += list[i].count * list[i].bytes + GUARD_BYTES;
     }
 }
 
 /* The places up to the last one whose bits changed. */
 static size_t reach(const struct list *l) {
     size_t n = l->count;
-    while (n > 0 && word_at(l->seen, n - 1) == l->given[n - 1]) n--;
+    while (n > 0 && word_of(l, n - 1) == l->given[n - 1]) n--;
     return n;
 }
 
 static int guards_changed(const struct list *list, int lists) {
-    for (int i = 0; i < lists; i++)
-        for (int g = 1; g <= GUARDS; g++)
-            if (word_at(list[i].seen - g, 0) != GUARD || word_at(list[i].seen + list[i].count, (size_t)g - 1) != GUARD) return 1;
+    for (int i = 0; i < lists; i++) {
+        const unsigned char *front = list[i].seen, *behind = front + list[i].count * list[i].bytes;
+        for (int g = 0; g < GUARD_BYTES; g++)
+            if (front[g - GUARD_BYTES] != GUARD_BYTE || behind[g] != GUARD_BYTE) return 1;
+    }
     return 0;
 }
 
@@ -118,7 +135,20 @@ static uint64_t call_levels(uint64_t op, const uint64_t *s, const struct list *l
     }
 }
 
+static uint64_t call_narrow(uint64_t op, const uint64_t *s, const struct list *l, size_t carried[2]) {
+    switch (op) {
+    case ANALYSE_F32: return isferghul_analyse_f32(s[0], l[0].seen, l[0].count, l[1].seen, l[1].count, l[2].seen, l[2].count,
+                                         l[3].seen, l[3].count, l[4].seen, l[4].count, l[5].seen, l[5].count, carried);
+    case SYNTHESISE_F32: return isferghul_synthesise_f32(l[0].seen, l[0].count, l[1].seen, l[1].count, l[2].seen, l[2].count,
+                                            l[3].seen, l[3].count, l[4].seen, l[4].count, carried);
+    case CONVOLVE_F32: return isferghul_convolve_f32(s[0], l[0].seen, l[0].count, l[1].seen, l[1].count, l[2].seen, l[2].count,
+                                          l[3].seen, l[3].count, (int64_t)s[1], carried);
+    default: return isferghul_mirror_f32(l[0].seen, l[0].count, l[1].seen, l[1].count);
+    }
+}
+
 static uint64_t call(uint64_t op, const uint64_t *s, const struct list *l, size_t carried[2]) {
+    if (op >= ANALYSE_F32) return call_narrow(op, s, l, carried);
     switch (op) {
     case ANALYSE: return isferghul_analyse(s[0], l[0].seen, l[0].count, l[1].seen, l[1].count, l[2].seen, l[2].count,
                                      l[3].seen, l[3].count, l[4].seen, l[4].count, l[5].seen, l[5].count, carried);
@@ -151,7 +181,7 @@ static uint64_t flags_of(const struct list *l, int lists, int lent) {
 
 static void put_lent(struct words *out, const struct list *l) {
     put(out, reach(l));
-    for (size_t i = 0; i < l->count; i++) put(out, one_nan(word_at(l->seen, i)));
+    for (size_t i = 0; i < l->count; i++) put(out, l->bytes == sizeof(float) ? one_nan_f32(word_of(l, i)) : one_nan(word_of(l, i)));
 }
 
 /* Runs the case at *at; its result goes behind what out holds. */
@@ -159,10 +189,11 @@ static void run(const struct words *in, size_t *at, struct words *arena, struct 
     uint64_t scalars[SCALARS] = {0};
     struct list list[LISTS];
     uint64_t op = next(in, at);
-    if (op < 1 || op > OPERATIONS) stop("no such operation");
+    if (op > OPERATIONS || shapes[op].bytes == 0) stop("no such operation");
     int lists = shapes[op].lists, lent = shapes[op].lent;
     for (int i = 0; i < shapes[op].scalars; i++) scalars[i] = next(in, at);
     for (int i = 0; i < lists; i++) {
+        list[i].bytes = (size_t)shapes[op].bytes;
         list[i].count = next(in, at);
         if (list[i].count > in->count - *at) stop("a list ends early");
         list[i].given = in->at + *at;

@@ -7,6 +7,9 @@
 
 #define GUARD UINT64_C(0xA5A5A5A5A5A5A5A5)
 #define GUARDS 8
+/* The same in bytes. */
+#define GUARD_BYTE 0xA5
+#define GUARD_BYTES 64
 /* A plane's four bands, and what they are joined to. */
 #define DIGESTS 5
 
@@ -20,6 +23,11 @@ static inline uint64_t word_at(const double *x, size_t i) {
 
 static inline uint64_t one_nan(uint64_t word) {
     return (word & UINT64_C(0x7FFFFFFFFFFFFFFF)) > UINT64_C(0x7FF0000000000000) ? UINT64_C(0x7FF8000000000000) : word;
+}
+
+/* Of a 32-bit float. */
+static inline uint64_t one_nan_f32(uint64_t word) {
+    return (word & UINT64_C(0x7FFFFFFF)) > UINT64_C(0x7F800000) ? UINT64_C(0x7FC00000) : word;
 }
 
 /* Analyses a plane that the block fills over and over, then joins its bands onto the same buffer. On 0 the digests are those of

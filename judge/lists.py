@@ -9,6 +9,7 @@ import sys
 sys.dont_write_bytecode = True
 import asked
 import asked_levels
+import asked_narrow
 import asked_pairs
 import asked_planes
 import examples
@@ -35,7 +36,9 @@ def of_rules():
                   asked_levels.lengths, asked_levels.analyses, asked_levels.parts, asked_levels.restorings, asked_levels.there_and_back, asked_levels.refusals,
                   asked_planes.lengths, asked_planes.analyses, asked_planes.there_and_back, asked_planes.syntheses, asked_planes.refused_analyses, asked_planes.refused_syntheses,
                   asked_planes.comparings,
-                  asked_pairs.lengths, asked_pairs.there_and_back, asked_pairs.premises_fail, asked_pairs.levels, asked_pairs.planes, asked_pairs.refusals):
+                  asked_pairs.lengths, asked_pairs.there_and_back, asked_pairs.premises_fail, asked_pairs.levels, asked_pairs.planes, asked_pairs.refusals,
+                  asked_narrow.lists_of_taps, asked_narrow.borders, asked_narrow.lines, asked_narrow.kernels, asked_narrow.roundings, asked_narrow.halfway, asked_narrow.specials,
+                  asked_narrow.refusals, asked_narrow.there_and_back, asked_narrow.pairs):
         theme()
     return asked.ASKED
 
@@ -54,7 +57,7 @@ def few(questions):
 def lists():
     questions = of_rules()
     return {
-        DATA / 'rules': ["# Calls and the answers of docs/RULES.md to them, computed by judge/rules.py and judge/sums.py; judge/asked.py and the three beside it ask.", *protocol.FORM, *answered(questions)],
+        DATA / 'rules': ["# Calls and the answers of docs/RULES.md to them, computed by judge/rules.py and judge/sums.py; judge/asked.py and the four beside it ask.", *protocol.FORM, *answered(questions)],
         DATA / 'examples': ["# P1 to P13 of docs/RULES.md, made by judge/examples.py of the list that is proved in crates/worked/specs/Examples.antt.", *protocol.FORM, *answered(examples.questions())],
         ROOT / 'crates/example/stdout': shown.lines(),
         SMALL: ["# P1 to P13 of docs/RULES.md, and a few of the questions that crates/replay/data/rules has of each operation.", *protocol.FORM, *answered(examples.questions()), *answered(few(questions))]}

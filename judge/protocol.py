@@ -1,6 +1,7 @@
 """The words of a case and of a result: 64-bit, little-endian.
 
-A case is its operation, its scalars, then each list as its count and its words (a float as its bits, a signed number in two's complement).
+A case is its operation, its scalars, then each list as its count and its words (a float as its bits, one of 32 bits
+in the lower half of its word, a signed number in two's complement).
 A result is the number, two carried words, a word of flags, then for each lent buffer its reach (the places from the front up to the last one
 whose bits changed) and its words, every NaN as one. What carries nothing is PATTERN. The flags of ours: bit 0 a word outside the lists
 changed, bit 1 a list that is only read changed. In the Rust's results that word is how many inner approximations it kept, or how many places
@@ -12,15 +13,16 @@ import itertools
 import struct
 import sys
 
+from widths import NARROW, WIDE
+
 PATTERN = 0xCCCCCCCCCCCCCCCC
-ONE_NAN = 0x7FF8000000000000
 # the driver's own numbers; not run is what would end the driver
 PANICKED, NO_COUNTERPART, NO_NUMBER, NOT_RUN = 1000, 1001, 1002, 1003
 BORDERS = ('Clamp', 'Wrap', 'Reflect', 'Zeros', 'Reflect101', 'Mirror', 'Mirror101')
 # the numbers of those that the Rust has, and of the others
 RUST_BORDERS, MIRRORS = range(5), range(5, len(BORDERS))
 
-Shape = collections.namedtuple('Shape', 'name scalars lists lent')
+Shape = collections.namedtuple('Shape', 'name scalars lists lent width', defaults=[WIDE])
 # how many taps each list of two pairs has
 PAIRS = ('low', 'high', 'lowback', 'highback')
 # Every operation's number and name, once: ANALYSE and so on are made of them below, and `protocol.py c` and `protocol.py rust` print them for the judge's two sides.
@@ -70,21 +72,25 @@ SHAPES = {
     40: Shape('restored_by_pairs', ('n', 'levels', *PAIRS), ('taps', 'packed', 'first', 'second', 'restored'), (2, 3, 4)),
     41: Shape('plane_by_pairs', ('width', 'height', *PAIRS), ('taps', 'll', 'lh', 'hl', 'hh', 'plane', 'scratch'), (5, 6)),
 }
+# Lines of 32-bit floats: the same shapes and rules as those of 64. The first four are judged, the others of the lists alone.
+WIDER = {42: 1, 43: 2, 44: 3, 45: 8, 46: 36, 47: 39}
+SHAPES.update({op: SHAPES[wide]._replace(name=SHAPES[wide].name + '_f32', width=NARROW) for op, wide in WIDER.items()})
+NARROWER = {wide: op for op, wide in WIDER.items()}
 globals().update({shape.name.upper(): op for op, shape in SHAPES.items()})
 PLANE_SIZES = tuple(op for op, shape in SHAPES.items() if shape.name.startswith('plane_') and shape.scalars == ('width', 'height', 'f'))
-# the judge's two sides know the operations up to this one
-JUDGED = LARGE_PLANE
+# what the judge's two sides know
+JUDGED = (*range(ANALYSE, LARGE_PLANE + 1), *range(ANALYSE_F32, MIRROR_F32 + 1))
 
 if sys.byteorder != 'little' or array.array('Q').itemsize != 8:
     sys.exit('protocol.py: this machine is not little-endian with words of 64 bits')
 
 
 class Case:
-    """An operation, its scalars as whole numbers, its lists as arrays of words."""
-    __slots__ = ('op', 'scalars', 'lists', 'counts')
+    """An operation, its scalars as whole numbers, its lists as arrays of words; and the operation of 64-bit floats, whose rules it has."""
+    __slots__ = ('op', 'wide', 'scalars', 'lists', 'counts')
 
     def __init__(self, op, scalars, lists):
-        self.op, self.scalars, self.lists = op, scalars, lists
+        self.op, self.wide, self.scalars, self.lists = op, WIDER.get(op, op), scalars, lists
         self.counts = [len(words) for words in lists]
 
     def shape(self):
@@ -145,9 +151,13 @@ def words_of(data):
     return array.array('Q', data)
 
 
-def bits_of(numbers):
-    """Floats by their bits."""
-    return words_of(struct.pack('<%dd' % len(numbers), *numbers))
+def of_width(op, width):
+    """The operation on floats of the width."""
+    return NARROWER[op] if width is NARROW else op
+
+
+# of 64-bit floats
+bits_of, one_nan = WIDE.bits_of, WIDE.one_nan
 
 
 def in_hex(words):
@@ -176,10 +186,6 @@ def line(case, answer, after):
         words = list(words)
         parts += [spelled(words), '' if left.get(i, words) == words else spelled(left[i])]
     return '|'.join(parts).rstrip('|') + '\n'
-
-
-def one_nan(word):
-    return ONE_NAN if word & (2**63 - 1) > 0x7FF0000000000000 else word
 
 
 def readable_case(case):
@@ -215,23 +221,20 @@ def readable_result(who, case, result):
 # --- the operations for the judge's two sides
 
 def in_c():
-    for op, shape in SHAPES.items():
-        if op <= JUDGED:
-            yield '#define %s %d' % (shape.name.upper(), op)
-    yield '#define OPERATIONS %d' % JUDGED
-    yield '/* By operation: how many scalars, how many lists, which of them are lent (a bit each). */'
-    yield 'static const struct { int scalars, lists, lent; } shapes[OPERATIONS + 1] = {'
-    yield '    {0, 0, 0},'
-    for op in range(1, JUDGED + 1):
+    for op in JUDGED:
+        yield '#define %s %d' % (SHAPES[op].name.upper(), op)
+    yield '#define OPERATIONS %d' % max(JUDGED)
+    yield '/* By operation: how many scalars, how many lists, which of them are lent (a bit each), and how many bytes a float has: none where there is no operation. */'
+    yield 'static const struct { int scalars, lists, lent, bytes; } shapes[OPERATIONS + 1] = {'
+    for op in JUDGED:
         shape = SHAPES[op]
-        yield '    {%d, %d, 0x%02X},' % (len(shape.scalars), len(shape.lists), sum(1 << i for i in shape.lent))
+        yield '    [%s] = {%d, %d, 0x%02X, %d},' % (shape.name.upper(), len(shape.scalars), len(shape.lists), sum(1 << i for i in shape.lent), shape.width.bits // 8)
     yield '};'
 
 
 def in_rust():
-    for op, shape in SHAPES.items():
-        if op <= JUDGED:
-            yield 'pub const %s: u64 = %d;' % (shape.name.upper(), op)
+    for op in JUDGED:
+        yield 'pub const %s: u64 = %d;' % (SHAPES[op].name.upper(), op)
 
 
 if __name__ == '__main__':

@@ -418,7 +418,7 @@ def answer(case):
     """The number that the rules give to the case, and what it carries."""
     if case.op == COMPARE_BANDS:
         return compare_bands(*case.scalars, *case.lists)
-    return TESTS[case.op](*case.scalars, *case.counts)
+    return TESTS[case.wide](*case.scalars, *case.counts)
 
 
 def unsaid(case):
@@ -432,15 +432,15 @@ def unsaid(case):
 def may_reach(case):
     """How far a done call may change each lent buffer."""
     reaches = [case.counts[i] for i in case.shape().lent]
-    if case.op == ANALYSE:
+    if case.wide == ANALYSE:
         reaches[-1] = padded_length(case.counts[2], case.counts[0])
-    if case.op == CONVOLVE:
+    if case.wide == CONVOLVE:
         n, f = case.counts[0], case.counts[3]
         reaches[-1] = n + sum(pads(f, case.scalars[1])) if f else 0
-    if case.op == ANALYSE_LEVELS:
+    if case.wide == ANALYSE_LEVELS:
         reaches[-1] = first_scratch(case.counts[2], case.counts[0])
-    if case.op == RESTORE_LEVELS:
+    if case.wide == RESTORE_LEVELS:
         reaches = [first_joined(case.scalars[0], case.counts[0])] * 2
-    if case.op in (ANALYSE_PLANE, SYNTHESISE_PLANE):
+    if case.wide in (ANALYSE_PLANE, SYNTHESISE_PLANE):
         reaches[-1] = unsaid(case)[-1]
     return reaches

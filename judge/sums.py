@@ -1,9 +1,10 @@
 """The numbers of docs/RULES.md, from its text: what every lent buffer holds after a call that is done. Each product is rounded, then each sum.
 
-Beside judge/rules.py, which has the tests. Buffers go in and out as lists of floats; OPEN is a place that the rules leave open."""
+Beside judge/rules.py, which has the tests. Buffers go in and out as lists of floats, which round to their own width (judge/widths.py); OPEN is a place that the
+rules leave open."""
 import rules
 from protocol import (ANALYSE, ANALYSE_LEVELS, ANALYSE_PLANE, BACK_BY_PAIRS, BORDERS, CONVOLVE, LEVEL_DETAILS, MIRROR, OPEN, PLANE_BY_PAIRS, READ_PLACE, RESTORE_LEVELS,
-                      RESTORED_BY_PAIRS, RESTORED_LINE, SYNTHESISE, SYNTHESISE_PLANE, THERE_AND_BACK)
+                      RESTORED_BY_PAIRS, RESTORED_LINE, SHAPES, SYNTHESISE, SYNTHESISE_PLANE, THERE_AND_BACK, WIDER)
 
 
 def folded(n, top, q):
@@ -219,5 +220,7 @@ DONE = {
 
 
 def after(op, scalars, lists):
-    """What each lent list holds after a done call."""
-    return [list(words) for words in DONE[op](*scalars, *lists)] if op in DONE else []
+    """What each lent list holds after a done call, every number of the operation's width."""
+    wide, number = WIDER.get(op, op), SHAPES[op].width.number
+    lists = [[number(x) for x in numbers] for numbers in lists]
+    return [list(words) for words in DONE[wide](*scalars, *lists)] if wide in DONE else []

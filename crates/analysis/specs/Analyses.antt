@@ -5,7 +5,7 @@ use mathlib.Core.List.{List, [], _∷_}
 use Prim.Native.Nat.{ℕ}
 use lib.Dec.{ltb, eqb}
 use lib.ListN.{length}
-use lib.Ieee.{Float, binary64}
+use lib.Ieee.{Float, Format}
 use Rattle.numbers.specs.Words.{longest, whenDone}
 use Rattle.border.specs.declared.Border.{Border}
 use Rattle.analysis.specs.declared.Analysis.{Analysis}
@@ -41,9 +41,9 @@ answerOf f n a d s =
     (cond (ltb s (paddedLength n f)) (ScratchSize (paddedLength n f) s)
     Done)))))
 
--- by the first f of either tap list, under a border: of a bank its arrays, count and border
-pub record Analysed (low high : List Float) (f : ℕ) (b : Border) (line approx detail scratch : List Float) (r : Analysis) (approx′ detail′ scratch′ : List Float) : Type 0 where
+-- in a format, by the first f of either tap list, under a border: of a bank its arrays, count and border
+pub record Analysed (w : Format) (low high : List Float) (f : ℕ) (b : Border) (line approx detail scratch : List Float) (r : Analysis) (approx′ detail′ scratch′ : List Float) : Type 0 where
   pub answer : r ≡ answerOf f (length line) (length approx) (length detail) (length scratch)
-  pub approxes : approx′ ≡ whenDone (numberOf r) (band binary64 low f b line) approx
-  pub details : detail′ ≡ whenDone (numberOf r) (band binary64 high f b line) detail
+  pub approxes : approx′ ≡ whenDone (numberOf r) (band w low f b line) approx
+  pub details : detail′ ≡ whenDone (numberOf r) (band w high f b line) detail
   pub scratched : scratch′ ≡ whenDone (numberOf r) (paddedInto f b line scratch) scratch

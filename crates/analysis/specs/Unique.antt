@@ -2,12 +2,12 @@
 use mathlib.Core.Path.{_≡_, sym, _∙_}
 use mathlib.Core.List.{List}
 use Prim.Native.Nat.{ℕ}
-use lib.Ieee.{Float}
+use lib.Ieee.{Float, Format}
 use Rattle.border.specs.declared.Border.{Border}
 use Rattle.analysis.specs.declared.Analysis.{Analysis}
 use Rattle.analysis.specs.Analyses.{Analysed}
 
-pub unique-analyse : {low high : List Float} {f : ℕ} {border : Border} {line approx detail scratch : List Float} {r r′ : Analysis} {a d s a′ d′ s′ : List Float}
-    → Analysed low high f border line approx detail scratch r a d s → Analysed low high f border line approx detail scratch r′ a′ d′ s′
+pub unique-analyse : {w : Format} {low high : List Float} {f : ℕ} {border : Border} {line approx detail scratch : List Float} {r r′ : Analysis} {a d s a′ d′ s′ : List Float}
+    → Analysed w low high f border line approx detail scratch r a d s → Analysed w low high f border line approx detail scratch r′ a′ d′ s′
     → (r ≡ r′) × (a ≡ a′) × (d ≡ d′) × (s ≡ s′)
 unique-analyse p q = let e = p .answer ∙ sym (q .answer) in (e, (cc), (cc), (cc))

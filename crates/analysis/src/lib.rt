@@ -3,6 +3,7 @@ pub mod lists;
 pub mod work;
 
 ghost use mathlib.Core.Path.{_≡_};
+ghost use lib.Ieee.{binary64};
 ghost use Rattle.analysis.specs.Analyses.{answerOf, Analysed};
 use bank::Bank;
 use bank::lengths::dwt_length;
@@ -57,7 +58,7 @@ pub fn analyse(
     detail: &mut [f64],
     scratch: &mut [f64],
 ) -> Analysis
-    ensures { λ r. ⌜ Analysed (bank .low) (bank .high) (bank .taps) (bank .border) (now (line .entry)) (now (approx .entry)) (now (detail .entry)) (now (scratch .entry))
+    ensures { λ r. ⌜ Analysed binary64 (bank .low) (bank .high) (bank .taps) (bank .border) (now (line .entry)) (now (approx .entry)) (now (detail .entry)) (now (scratch .entry))
         r (now (approx .exit)) (now (detail .exit)) (now (scratch .exit)) ⌝ }
 {
     let f = bank.taps;

@@ -1,5 +1,6 @@
 // Analysis by tap lists, for an entry that has a bank and for one that has the caller's own lists.
 ghost use lib.ListN.{length};
+ghost use lib.Ieee.{binary64};
 ghost use Rattle.bank.specs.Lengths.{Counted};
 ghost use Rattle.analysis.specs.Analyses.{Analysed};
 use crate::Analysis;
@@ -19,7 +20,7 @@ pub fn analyse<'a>(
     scratch: &mut [f64],
 ) -> Analysis
     requires { ⌜ Counted f (length (now low)) (length (now high)) ⌝ }
-    ensures { λ r. ⌜ Analysed (now (low .entry)) (now (high .entry)) f border (now (line .entry)) (now (approx .entry)) (now (detail .entry)) (now (scratch .entry))
+    ensures { λ r. ⌜ Analysed binary64 (now (low .entry)) (now (high .entry)) f border (now (line .entry)) (now (approx .entry)) (now (detail .entry)) (now (scratch .entry))
         r (now (approx .exit)) (now (detail .exit)) (now (scratch .exit)) ⌝ }
 {
     let answer = analysis_answer(f, line.len(), approx.len(), detail.len(), scratch.len());

@@ -33,9 +33,11 @@ fn eights(
     let m = approx.len();
     let mut i = 0usize;
     while i + 7 < m {
-        let pairs = eight(low, high, f, padded, 2 * i);
-        put(pairs, false, approx, i);
-        put(pairs, true, detail, i);
+        let sums = eight(low, high, f, padded, 2 * i);
+        let approxes = sums.approx;
+        let details = sums.detail;
+        put(approxes, approx, i);
+        put(details, detail, i);
         i += 8;
     }
     i
@@ -77,9 +79,11 @@ fn eights_beside(
 {
     let mut i = 0usize;
     while i + 7 < m {
-        let pairs = eight(low, high, f, padded, 2 * i);
-        put(pairs, true, both, i);
-        put(pairs, false, both, m + i);
+        let sums = eight(low, high, f, padded, 2 * i);
+        let approxes = sums.approx;
+        let details = sums.detail;
+        put(details, both, i);
+        put(approxes, both, m + i);
         i += 8;
     }
     i
@@ -115,9 +119,11 @@ fn eights_within(
     let end = from + padded_length(m, f);
     let mut i = 0usize;
     while i + 7 < m {
-        let pairs = eight(low, high, f, &s[from..end], 2 * i);
-        put(pairs, false, s, to + i);
-        put(pairs, true, s, to + m + i);
+        let sums = eight(low, high, f, &s[from..end], 2 * i);
+        let approxes = sums.approx;
+        let details = sums.detail;
+        put(approxes, s, to + i);
+        put(details, s, to + m + i);
         i += 8;
     }
     i

@@ -75,7 +75,7 @@ module _ (bank : Bank) (line p q scratch : List Float) {m A D : ℕ} (b : Banded
     room = few-pairs _ _ _ _ _ _ b .1;
   })
 
-  pub bands-printed : {r : Analysis} {a d s : List Float} {text text′ : List ℕ} {print : Printing} (x y : List Float) → Analyses.Analysed (bank .low) (bank .high) (bank .taps) (bank .border) line p q scratch r a d s
+  pub bands-printed : {r : Analysis} {a d s : List Float} {text text′ : List ℕ} {print : Printing} (x y : List Float) → Analyses.Analysed binary64 (bank .low) (bank .high) (bank .taps) (bank .border) line p q scratch r a d s
       → Printed (tooLong (take m (a ++ x)) (take m (d ++ y))) (bandsText (take m (a ++ x)) (take m (d ++ y))) text print text′
       → Printed false (bankText bank line) text print text′
   bands-printed {a = a} {d} {text = text} {text′} {print} x y w v =

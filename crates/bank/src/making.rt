@@ -26,7 +26,7 @@ fn done(
     taps: usize,
     border: Border,
 ) -> Made
-    ensures { λ r. ⌜ (r .answer ≡ Making.Done) × (r .bank ≡ heldIn low high lowback highback taps border) ⌝ }
+    ensures { λ r. ⌜ (r .answer ≡ Making.Done) × (heldIn (r .bank .low) (r .bank .high) (r .bank .lowback) (r .bank .highback) (r .bank .taps) (r .bank .border) ≡ heldIn low high lowback highback taps border) ⌝ }
 {
     Made {
         answer: Making::Done,
@@ -42,7 +42,7 @@ fn done(
 }
 
 fn refused(border: Border) -> Made
-    ensures { λ r. ⌜ (r .answer ≡ Making.Taps) × (r .bank ≡ noBank border) ⌝ }
+    ensures { λ r. ⌜ (r .answer ≡ Making.Taps) × (heldIn (r .bank .low) (r .bank .high) (r .bank .lowback) (r .bank .highback) (r .bank .taps) (r .bank .border) ≡ noBank border) ⌝ }
 {
     Made {
         answer: Making::Taps,
@@ -58,7 +58,7 @@ fn refused(border: Border) -> Made
 }
 
 pub fn bank(low: &[f64], high: &[f64], border: Border) -> Made
-    ensures { λ r. ⌜ BankMade (now (low .entry)) (now (high .entry)) border (r .answer) (r .bank) ⌝ }
+    ensures { λ r. ⌜ BankMade (now (low .entry)) (now (high .entry)) border (r .answer) (heldIn (r .bank .low) (r .bank .high) (r .bank .lowback) (r .bank .highback) (r .bank .taps) (r .bank .border)) ⌝ }
 {
     let f = low.len();
     if bad_taps(f) {
@@ -74,7 +74,7 @@ pub fn bank(low: &[f64], high: &[f64], border: Border) -> Made
 
 // A bank whose high taps follow from the low ones.
 pub fn mirrored(low: &[f64], border: Border) -> Made
-    ensures { λ r. ⌜ MirrorMade (now (low .entry)) border (r .answer) (r .bank) ⌝ }
+    ensures { λ r. ⌜ MirrorMade (now (low .entry)) border (r .answer) (heldIn (r .bank .low) (r .bank .high) (r .bank .lowback) (r .bank .highback) (r .bank .taps) (r .bank .border)) ⌝ }
 {
     let f = low.len();
     if bad_taps(f) {
@@ -112,7 +112,7 @@ pub fn two_pairs(
     highback: &[f64],
     border: Border,
 ) -> Made
-    ensures { λ r. ⌜ PairsMade (now (low .entry)) (now (high .entry)) (now (lowback .entry)) (now (highback .entry)) border (r .answer) (r .bank) ⌝ }
+    ensures { λ r. ⌜ PairsMade (now (low .entry)) (now (high .entry)) (now (lowback .entry)) (now (highback .entry)) border (r .answer) (heldIn (r .bank .low) (r .bank .high) (r .bank .lowback) (r .bank .highback) (r .bank .taps) (r .bank .border)) ⌝ }
 {
     let answer = pairs_answer(low.len(), high.len(), lowback.len(), highback.len());
     let Making::Done = answer else {

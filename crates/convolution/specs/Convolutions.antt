@@ -6,7 +6,7 @@ use Prim.Native.Nat.{ℕ}
 use lib.Dec.{ltb, leb, eqb}
 use lib.IntN.{ℤ, natAbs}
 use lib.ListN.{length}
-use lib.Ieee.{Float, binary64}
+use lib.Ieee.{Float, Format}
 use Rattle.numbers.specs.Words.{plusZero, whenDone, written}
 use Rattle.border.specs.declared.Border.{Border}
 use Rattle.border.specs.Rule.{padded}
@@ -46,9 +46,9 @@ answerOf b n o f c s =
     (cond (tooFar b n (leftPad f c) (rightPad f c)) Reflect101Pad
     Done))))))
 
--- the output: an empty kernel copies
-abbrev pub convolvedLine : Border → List Float → List Float → ℤ → List Float
-convolvedLine b line kernel c = cond (eqb (length kernel) 0) line (convolution binary64 b line kernel c)
+-- the output, in a format: an empty kernel copies
+abbrev pub convolvedLine : Format → Border → List Float → List Float → ℤ → List Float
+convolvedLine w b line kernel c = cond (eqb (length kernel) 0) line (convolution w b line kernel c)
 
 -- the scratch: it begins with the padded line and is as it was beyond it; an empty kernel leaves it alone
 abbrev pub paddedInto : Border → List Float → List Float → ℤ → List Float → List Float
@@ -56,7 +56,7 @@ paddedInto b line kernel c scratch =
     cond (eqb (length kernel) 0) scratch
     (written (padded plusZero b line (leftPad (length kernel) c)) (needed (length line) (length kernel) c) scratch)
 
-pub record Convolved (b : Border) (line out scratch kernel : List Float) (c : ℤ) (r : Convolution) (out′ scratch′ : List Float) : Type 0 where
+pub record Convolved (w : Format) (b : Border) (line out scratch kernel : List Float) (c : ℤ) (r : Convolution) (out′ scratch′ : List Float) : Type 0 where
   pub answer : r ≡ answerOf b (length line) (length out) (length kernel) c (length scratch)
-  pub convolved : out′ ≡ whenDone (numberOf r) (convolvedLine b line kernel c) out
+  pub convolved : out′ ≡ whenDone (numberOf r) (convolvedLine w b line kernel c) out
   pub scratched : scratch′ ≡ whenDone (numberOf r) (paddedInto b line kernel c scratch) scratch

@@ -3,7 +3,7 @@ use mathlib.Core.Path.{_≡_, sym, _∙_}
 use mathlib.Core.List.{List}
 use Prim.Native.Nat.{ℕ}
 use lib.IntN.{ℤ}
-use lib.Ieee.{Float}
+use lib.Ieee.{Float, Format}
 use Rattle.border.specs.declared.Border.{Border}
 use Rattle.convolution.specs.declared.pads.Scratch.{Scratch}
 use Rattle.convolution.specs.declared.Convolution.{Convolution}
@@ -13,7 +13,7 @@ use Rattle.convolution.specs.Convolutions.{Convolved}
 pub unique-convolution-scratch : {n f : ℕ} {c : ℤ} {r r′ : Scratch} → ScratchSized n f c r → ScratchSized n f c r′ → r ≡ r′
 unique-convolution-scratch p q = p .answer ∙ sym (q .answer)
 
-pub unique-convolve : {b : Border} {line out scratch kernel : List Float} {c : ℤ} {r r′ : Convolution} {o s o′ s′ : List Float}
-    → Convolved b line out scratch kernel c r o s → Convolved b line out scratch kernel c r′ o′ s′
+pub unique-convolve : {w : Format} {b : Border} {line out scratch kernel : List Float} {c : ℤ} {r r′ : Convolution} {o s o′ s′ : List Float}
+    → Convolved w b line out scratch kernel c r o s → Convolved w b line out scratch kernel c r′ o′ s′
     → (r ≡ r′) × (o ≡ o′) × (s ≡ s′)
 unique-convolve p q = let e = p .answer ∙ sym (q .answer) in (e, (cc), (cc))

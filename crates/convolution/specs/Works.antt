@@ -4,7 +4,7 @@ use mathlib.Core.List.{List}
 use Prim.Native.Nat.{ℕ, _+_, _-_, _≤_, _<_}
 use lib.IntN.{ℤ, natAbs}
 use lib.ListN.{length, take}
-use lib.Ieee.{Float, Format, add, binary64, mul}
+use lib.Ieee.{Float, Format, add, mul}
 use Rattle.border.specs.declared.rule.Place.{Place}
 use Rattle.numbers.specs.Words.{at, tab}
 use Rattle.convolution.specs.Pads.{centreOf}
@@ -55,5 +55,5 @@ abbrev pub sumFrom : Format → List Float → List Float → ℕ → ℕ → �
 sumFrom f kernel line x i q = kernelSum f kernel line (x + q) i
 
 -- the first x places of an output are done
-abbrev pub Summed : List Float → List Float → ℕ → List Float → Type 0
-Summed kernel line x out = take x out ≡ tab (placeOf binary64 kernel line) x
+abbrev pub Summed : Format → List Float → List Float → ℕ → List Float → Type 0
+Summed f kernel line x out = take x out ≡ tab (placeOf f kernel line) x

@@ -4,6 +4,7 @@ pub mod reach;
 pub mod work;
 
 ghost use mathlib.Core.Path.{_≡_};
+ghost use lib.Ieee.{binary64};
 ghost use Rattle.convolution.specs.Pads.{centreOf};
 ghost use Rattle.convolution.specs.Convolutions.{answerOf, Convolved};
 use crate::pads::beyond;
@@ -79,7 +80,7 @@ pub fn convolve(
     kernel: &[f64],
     centre: i64,
 ) -> Convolution
-    ensures { λ r. ⌜ Convolved border (now (line .entry)) (now (out .entry)) (now (scratch .entry)) (now (kernel .entry)) centre
+    ensures { λ r. ⌜ Convolved binary64 border (now (line .entry)) (now (out .entry)) (now (scratch .entry)) (now (kernel .entry)) centre
         r (now (out .exit)) (now (scratch .exit)) ⌝ }
 {
     let n = line.len();

@@ -32,7 +32,7 @@ fn add_tap(sums: &mut [f64], padded: &[f64], x: usize, tap: f64)
     }
 }
 
-// The places from x on, as many as there are sums, by way of these. Inlined where their number is known, they travel through the taps in registers, two to each.
+// The places from x on, as many as there are sums, by way of these. Inlined where their number is known, they travel through the taps in registers, several to each.
 fn block(kernel: &[f64], padded: &[f64], x: usize, sums: &mut [f64], out: &mut [f64])
     requires { ⌜ Summing (length (now kernel)) (length (now padded)) (x + length (now sums)) × (x + length (now sums) ≤ length (now out)) ⌝ }
     ensures { λ _. ⌜ now (out .exit) ≡ replaced (placeOf binary64 (now (kernel .entry)) (now (padded .entry))) x (length (now (sums .entry))) (now (out .entry)) ⌝ }
@@ -50,7 +50,7 @@ fn block(kernel: &[f64], padded: &[f64], x: usize, sums: &mut [f64], out: &mut [
 // output does and lap over those before: they write the same numbers there. An output of fewer than sixteen is left as it is.
 fn sixteens(kernel: &[f64], padded: &[f64], out: &mut [f64]) -> usize
     requires { ⌜ Summing (length (now kernel)) (length (now padded)) (length (now out)) ⌝ }
-    ensures { λ r. ⌜ (r ≤ length (now (out .entry))) × Summed (now (kernel .entry)) (now (padded .entry)) r (now (out .exit)) ⌝ }
+    ensures { λ r. ⌜ (r ≤ length (now (out .entry))) × Summed binary64 (now (kernel .entry)) (now (padded .entry)) r (now (out .exit)) ⌝ }
 {
     let n = out.len();
     if n < 16 {
@@ -69,8 +69,8 @@ fn sixteens(kernel: &[f64], padded: &[f64], out: &mut [f64]) -> usize
 
 // Four places a turn in the same way, from `from` on, while more than one is left. Those before are done.
 fn fours(kernel: &[f64], padded: &[f64], out: &mut [f64], from: usize) -> usize
-    requires { ⌜ Summing (length (now kernel)) (length (now padded)) (length (now out)) × (from ≤ length (now out)) × Summed (now kernel) (now padded) from (now out) ⌝ }
-    ensures { λ r. ⌜ (r ≤ length (now (out .entry))) × Summed (now (kernel .entry)) (now (padded .entry)) r (now (out .exit)) ⌝ }
+    requires { ⌜ Summing (length (now kernel)) (length (now padded)) (length (now out)) × (from ≤ length (now out)) × Summed binary64 (now kernel) (now padded) from (now out) ⌝ }
+    ensures { λ r. ⌜ (r ≤ length (now (out .entry))) × Summed binary64 (now (kernel .entry)) (now (padded .entry)) r (now (out .exit)) ⌝ }
 {
     let n = out.len();
     if n < 4 {
@@ -89,7 +89,7 @@ fn fours(kernel: &[f64], padded: &[f64], out: &mut [f64], from: usize) -> usize
 
 // One place a turn, from `from` on. Those before are done.
 fn rest(kernel: &[f64], padded: &[f64], out: &mut [f64], from: usize)
-    requires { ⌜ Summing (length (now kernel)) (length (now padded)) (length (now out)) × (from ≤ length (now out)) × Summed (now kernel) (now padded) from (now out) ⌝ }
+    requires { ⌜ Summing (length (now kernel)) (length (now padded)) (length (now out)) × (from ≤ length (now out)) × Summed binary64 (now kernel) (now padded) from (now out) ⌝ }
     ensures { λ _. ⌜ now (out .exit) ≡ tab (placeOf binary64 (now (kernel .entry)) (now (padded .entry))) (length (now (out .entry))) ⌝ }
 {
     let mut x = from;

@@ -4,7 +4,7 @@ use mathlib.Core.List.{List, []}
 use Prim.Native.Nat.{ℕ, _≤_}
 use lib.ListN.{length}
 use lib.IntN.{ℤ}
-use lib.Ieee.{Float, binary64}
+use lib.Ieee.{Float, Format}
 use Rattle.numbers.specs.Words.{cleared, whenDone}
 use Rattle.border.specs.declared.Border.{Border}
 use Rattle.bank.specs.Lengths.{pairs, paddedLength, lineLength}
@@ -40,18 +40,18 @@ pub record Ruled (n f a d s o : ℕ) : Type 0 where
   pub room : paddedLength n f ≤ s
   pub placed : o ≡ lineLength (pairs n f) f
 
--- by f taps of al and ah there, of sl and sh back, into an output that is cleared
-pub record Returned (al ah sl sh : List Float) (f : ℕ) (b : Border) (line approx detail scratch out : List Float) (r : Back) (approx′ detail′ scratch′ out′ : List Float) : Type 0 where
+-- in a format, by f taps of al and ah there, of sl and sh back, into an output that is cleared
+pub record Returned (w : Format) (al ah sl sh : List Float) (f : ℕ) (b : Border) (line approx detail scratch out : List Float) (r : Back) (approx′ detail′ scratch′ out′ : List Float) : Type 0 where
   pub answer : r ≡ answerOf f (length line) (length approx) (length detail) (length scratch) (length out)
-  pub approxes : approx′ ≡ whenDone (numberOf r) (band binary64 al f b line) approx
-  pub details : detail′ ≡ whenDone (numberOf r) (band binary64 ah f b line) detail
+  pub approxes : approx′ ≡ whenDone (numberOf r) (band w al f b line) approx
+  pub details : detail′ ≡ whenDone (numberOf r) (band w ah f b line) detail
   pub scratched : scratch′ ≡ whenDone (numberOf r) (paddedInto f b line scratch) scratch
-  pub joined : out′ ≡ whenDone (numberOf r) (thereAndBack binary64 f al ah sl sh b line (cleared (length out))) out
+  pub joined : out′ ≡ whenDone (numberOf r) (thereAndBack w f al ah sl sh b line (cleared (length out))) out
   -- whatever meets the premises is taken, and comes back exactly: by the same pair both ways
-  pub exact : sl ≡ al → sh ≡ ah → (z v : List ℤ) (A : ℕ) → Premises binary64 f al ah line z v A
+  pub exact : sl ≡ al → sh ≡ ah → (z v : List ℤ) (A : ℕ) → Premises w f al ah line z v A
       → Ruled (length line) f (length approx) (length detail) (length scratch) (length out)
       → (r ≡ Done) × Restored b (squares z) v out′
   -- and by a pair for each way
-  pub exact-pairs : (alℤ ahℤ slℤ shℤ v : List ℤ) (S : ℤ) (A : ℕ) → PairPremises binary64 f al ah sl sh line alℤ ahℤ slℤ shℤ v S A
+  pub exact-pairs : (alℤ ahℤ slℤ shℤ v : List ℤ) (S : ℤ) (A : ℕ) → PairPremises w f al ah sl sh line alℤ ahℤ slℤ shℤ v S A
       → Ruled (length line) f (length approx) (length detail) (length scratch) (length out)
       → (r ≡ Done) × Restored b S v out′

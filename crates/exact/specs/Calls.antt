@@ -6,7 +6,7 @@ use mathlib.Core.List.{List}
 use Prim.Native.Nat.{ℕ, zero, suc, _<_}
 use native.Mathlib.Omega.{arith}
 use lib.ListN.{length}
-use lib.Ieee.{Float, nan}
+use lib.Ieee.{Float, Format, nan}
 use Rattle.numbers.specs.Words.{plusZero, whenDone, cleared}
 use Rattle.numbers.specs.Write.{length-tab, getD-tab}
 use Rattle.numbers.specs.Tests.{kept, renewed, refused}
@@ -78,12 +78,12 @@ cleared-zeros n = record {
   clear = λ p h. let l : p < n = omega (arith, length-tab (λ q. plusZero) n) in rw (getD-tab (λ q. plusZero) n p nan l) (zero-whole false);
 }
 
-module _ (al ah sl sh : List Float) (F : ℕ) (b : Border) (line approx detail scratch out : List Float) where
+module _ (w : Format) (al ah sl sh : List Float) (F : ℕ) (b : Border) (line approx detail scratch out : List Float) where
   abbrev lengths : Back
   lengths = answerOf F (length line) (length approx) (length detail) (length scratch) (length out)
 
   -- a refusal leaves everything as it was, and nothing that meets the premises is refused
-  pub returned-refused : {r : Back} → r ≡ lengths → (r ≡ way.Done → ⊥) → Returned al ah sl sh F b line approx detail scratch out r approx detail scratch out
+  pub returned-refused : {r : Back} → r ≡ lengths → (r ≡ way.Done → ⊥) → Returned w al ah sl sh F b line approx detail scratch out r approx detail scratch out
   returned-refused {r} e h = record {
     answer = e;
     approxes = kept (numberOf r) above _ approx;
@@ -100,8 +100,8 @@ module _ (al ah sl sh : List Float) (F : ℕ) (b : Border) (line approx detail s
 
   -- the two promises, one after the other
   pub returned-done : {r : Back} {there : Analysis} {back : Synthesis} {a d s clear o : List Float} → r ≡ lengths → r ≡ way.Done
-      → Analyses.Analysed al ah F b line approx detail scratch there a d s → clear ≡ cleared (length out) → Syntheses.Synthesised sl sh F a d clear back o
-      → Returned al ah sl sh F b line approx detail scratch out way.Done a d s o
+      → Analyses.Analysed w al ah F b line approx detail scratch there a d s → clear ≡ cleared (length out) → Syntheses.Synthesised w sl sh F a d clear back o
+      → Returned w al ah sl sh F b line approx detail scratch out way.Done a d s o
   returned-done {r} {there} {back} {a} {d} {s} {clear} {o} e z p c q = record {
     answer = sym z ∙ e;
     approxes = approxed p went;

@@ -1,5 +1,6 @@
 // There and back: a line into its bands and the bands into a cleared output, which restores the line exactly where that can be.
 ghost use mathlib.Core.Path.{_≡_};
+ghost use lib.Ieee.{binary64};
 ghost use Rattle.exact.specs.Backs.{answerOf, Returned};
 use analysis::Analysis;
 use analysis::analysis_answer;
@@ -48,7 +49,7 @@ pub fn there_and_back(
     scratch: &mut [f64],
     out: &mut [f64],
 ) -> Back
-    ensures { λ r. ⌜ Returned (bank .low) (bank .high) (bank .lowback) (bank .highback) (bank .taps) (bank .border) (now (line .entry)) (now (approx .entry)) (now (detail .entry)) (now (scratch .entry)) (now (out .entry))
+    ensures { λ r. ⌜ Returned binary64 (bank .low) (bank .high) (bank .lowback) (bank .highback) (bank .taps) (bank .border) (now (line .entry)) (now (approx .entry)) (now (detail .entry)) (now (scratch .entry)) (now (out .entry))
         r (now (approx .exit)) (now (detail .exit)) (now (scratch .exit)) (now (out .exit)) ⌝ }
 {
     let answer = back_answer(

@@ -1,4 +1,4 @@
-// Sixteen places of one parity, gathered from the pairs that reach them. Inlined, their sums stay in registers, two to each.
+// Sixteen places of one parity, gathered from the pairs that reach them. Inlined, their sums stay in registers, several to each.
 pub mod seconds;
 
 ghost use mathlib.Core.Path.{_≡_};

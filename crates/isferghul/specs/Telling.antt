@@ -4,7 +4,7 @@ use mathlib.Core.List.{List, [], _∷_}
 use Prim.Native.Nat.{ℕ}
 use native.Mathlib.Omega.{arith}
 use lib.IntN.{ℤ}
-use lib.Ieee.{Float}
+use lib.Ieee.{Float, Format}
 use Rattle.numbers.specs.Tests.{kept}
 use Rattle.border.specs.declared.Border.{Border}
 use Rattle.convolution.specs.declared.Convolution.{Convolution}
@@ -30,6 +30,6 @@ module _ (n f levels : ℕ) (a : Levels) {number : ℕ} {words words′ : List �
       told-as numberOf (valuesBack n f levels) done (record { given = u .given; carried = (cc) })
 
 -- what is promised of a centre is promised by any name of it
-pub centred : {b : Border} {line out scratch kernel : List Float} {c c′ : ℤ} {a : Convolution} {o s : List Float} → c′ ≡ c
-    → Convolved b line out scratch kernel c′ a o s → Convolved b line out scratch kernel c a o s
-centred {b} {line} {out} {scratch} {kernel} {a = a} {o} {s} e p = subst (λ (z : ℤ). Convolved b line out scratch kernel z a o s) e p
+pub centred : {w : Format} {b : Border} {line out scratch kernel : List Float} {c c′ : ℤ} {a : Convolution} {o s : List Float} → c′ ≡ c
+    → Convolved w b line out scratch kernel c′ a o s → Convolved w b line out scratch kernel c a o s
+centred {w} {b} {line} {out} {scratch} {kernel} {a = a} {o} {s} e p = subst (λ (z : ℤ). Convolved w b line out scratch kernel z a o s) e p

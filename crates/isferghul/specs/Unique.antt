@@ -5,7 +5,7 @@ use mathlib.Core.List.{List}
 use Prim.Native.Nat.{ℕ, _<_}
 use lib.IntN.{ℤ}
 use lib.ListN.{length, drop}
-use lib.Ieee.{Float}
+use lib.Ieee.{Float, Format}
 use Rattle.bank.specs.Banks as Banks
 use Rattle.bank.specs.Banks.{tapsOf}
 use Rattle.bank.specs.Unique.{unique-mirror}
@@ -35,20 +35,20 @@ unique-mirror-told p q = let u = unique-mirror (p .promised) (q .promised) in (p
 pub unique-two-pairs-told : {low high sl sh r r′ : ℕ} → PairsTold low high sl sh r → PairsTold low high sl sh r′ → r ≡ r′
 unique-two-pairs-told p q = p .given ∙ ap Banks.numberOf (both (p .promised) (q .promised)) ∙ sym (q .given)
 
-pub unique-analysis-told : {border : ℕ} {low high line approx detail scratch : List Float} {words : List ℕ} {r r′ : ℕ} {a d s a′ d′ s′ : List Float} {w w′ : List ℕ}
-    → AnalysisTold border low high line approx detail scratch words r a d s w → AnalysisTold border low high line approx detail scratch words r′ a′ d′ s′ w′
+pub unique-analysis-told : {f : Format} {border : ℕ} {low high line approx detail scratch : List Float} {words : List ℕ} {r r′ : ℕ} {a d s a′ d′ s′ : List Float} {w w′ : List ℕ}
+    → AnalysisTold f border low high line approx detail scratch words r a d s w → AnalysisTold f border low high line approx detail scratch words r′ a′ d′ s′ w′
     → (r ≡ r′) × (w ≡ w′) × ((a ≡ a′) × (d ≡ d′) × (s ≡ s′))
 unique-analysis-told p q =
     unique-told-under
     (λ b x y e k l. let o = unique-analyse k l in (o .0, (o .1, o .2, o .3)))
     (λ k l. (both (k .0) (l .0), both (k .1) (l .1), both (k .2) (l .2))) p q
 
-pub unique-synthesis-told : {low high approx detail out : List Float} {words : List ℕ} {r r′ : ℕ} {o o′ : List Float} {w w′ : List ℕ}
-    → SynthesisTold low high approx detail out words r o w → SynthesisTold low high approx detail out words r′ o′ w′ → (r ≡ r′) × (w ≡ w′) × (o ≡ o′)
+pub unique-synthesis-told : {f : Format} {low high approx detail out : List Float} {words : List ℕ} {r r′ : ℕ} {o o′ : List Float} {w w′ : List ℕ}
+    → SynthesisTold f low high approx detail out words r o w → SynthesisTold f low high approx detail out words r′ o′ w′ → (r ≡ r′) × (w ≡ w′) × (o ≡ o′)
 unique-synthesis-told p q = unique-told-of (λ x y e u v. unique-synthesise u v) p q
 
-pub unique-convolution-told : {border : ℕ} {line out scratch kernel : List Float} {c : ℤ} {words : List ℕ} {r r′ : ℕ} {o s o′ s′ : List Float} {w w′ : List ℕ}
-    → ConvolutionTold border line out scratch kernel c words r o s w → ConvolutionTold border line out scratch kernel c words r′ o′ s′ w′
+pub unique-convolution-told : {f : Format} {border : ℕ} {line out scratch kernel : List Float} {c : ℤ} {words : List ℕ} {r r′ : ℕ} {o s o′ s′ : List Float} {w w′ : List ℕ}
+    → ConvolutionTold f border line out scratch kernel c words r o s w → ConvolutionTold f border line out scratch kernel c words r′ o′ s′ w′
     → (r ≡ r′) × (w ≡ w′) × ((o ≡ o′) × (s ≡ s′))
 unique-convolution-told p q =
     unique-told-under (λ b x y e k l. let o = unique-convolve k l in (o .0, (o .1, o .2))) (λ k l. (both (k .0) (l .0), both (k .1) (l .1))) p q

@@ -1,4 +1,5 @@
 // One line, for C.
+ghost use lib.Ieee.{binary64};
 ghost use Rattle.isferghul.specs.Lines.{AnalysisTold, SynthesisTold, ConvolutionTold};
 use analysis::lists::analyse;
 use bank::taps::taps_of;
@@ -20,7 +21,7 @@ pub extern "C" fn isferghul_analyse<'a>(
     scratch: &mut [f64],
     carried: &mut [usize; 2],
 ) -> u64
-    ensures { λ r. ⌜ AnalysisTold border (now (low .entry)) (now (high .entry)) (now (line .entry)) (now (approx .entry)) (now (detail .entry)) (now (scratch .entry)) (now (carried .entry))
+    ensures { λ r. ⌜ AnalysisTold binary64 border (now (low .entry)) (now (high .entry)) (now (line .entry)) (now (approx .entry)) (now (detail .entry)) (now (scratch .entry)) (now (carried .entry))
         r (now (approx .exit)) (now (detail .exit)) (now (scratch .exit)) (now (carried .exit)) ⌝ }
 {
     if no_border(border) {
@@ -42,7 +43,7 @@ pub extern "C" fn isferghul_synthesise<'a>(
     out: &mut [f64],
     carried: &mut [usize; 2],
 ) -> u64
-    ensures { λ r. ⌜ SynthesisTold (now (low .entry)) (now (high .entry)) (now (approx .entry)) (now (detail .entry)) (now (out .entry)) (now (carried .entry)) r (now (out .exit)) (now (carried .exit)) ⌝ }
+    ensures { λ r. ⌜ SynthesisTold binary64 (now (low .entry)) (now (high .entry)) (now (approx .entry)) (now (detail .entry)) (now (out .entry)) (now (carried .entry)) r (now (out .exit)) (now (carried .exit)) ⌝ }
 {
     let f = taps_of(low.len(), high.len());
     let answer = synthesise(low, high, f, approx, detail, out);
@@ -59,7 +60,7 @@ pub extern "C" fn isferghul_convolve(
     centre: i64,
     carried: &mut [usize; 2],
 ) -> u64
-    ensures { λ r. ⌜ ConvolutionTold border (now (line .entry)) (now (out .entry)) (now (scratch .entry)) (now (kernel .entry)) centre (now (carried .entry))
+    ensures { λ r. ⌜ ConvolutionTold binary64 border (now (line .entry)) (now (out .entry)) (now (scratch .entry)) (now (kernel .entry)) centre (now (carried .entry))
         r (now (out .exit)) (now (scratch .exit)) (now (carried .exit)) ⌝ }
 {
     if no_border(border) {

@@ -16,7 +16,7 @@ pub fn copy_to(line: &[f64], s: &mut [f64], to: usize)
     }
 }
 
-// Eight numbers of the line, from `i` on, go to s from `t` on. All are read before one is written, so that the compiler may move them in pairs.
+// Eight numbers of the line, from `i` on, go to s from `t` on. All are read before one is written, so that the compiler may move several at once.
 fn copy_eight(line: &[f64], s: &mut [f64], i: usize, t: usize)
     requires { ⌜ (i + 8 ≤ length (now line)) × (t + 8 ≤ length (now s)) ⌝ }
     ensures { λ _. ⌜ now (s .exit) ≡ placed (λ k. at (now (line .entry)) (i + k)) t 8 (now (s .entry)) ⌝ }

@@ -1,5 +1,11 @@
 // One line: its call, and whether all that it answers and leaves is as the line says.
-use crate::floats::list;
+ghost use Prim.Native.Nat.{_≤_};
+use crate::answers::BLANK;
+use crate::answers::told;
+use crate::asking_f32;
+use crate::floats::floats;
+use crate::floats::kept;
+use crate::floats::lent;
 use crate::floats::same;
 use crate::on_banks;
 use crate::on_levels;
@@ -7,29 +13,10 @@ use crate::on_lines;
 use crate::on_pairs;
 use crate::on_planes;
 use crate::on_sizes;
-use crate::parts::count;
-use crate::parts::item;
-use crate::parts::part;
 use crate::parts::scalar;
 
-// What a word holds before a call.
-const BLANK: usize = 81985529216486895;
-
-// A value that the answer carries, or the blank that it left.
-fn value(words: &[u64], at: usize, i: usize) -> usize {
-    if count(words, at) <= i {
-        return BLANK;
-    }
-    item(words, at, i) as usize
-}
-
-// Whether a number and what it carries are as the line says.
-fn told(words: &[u64], number: u64, carried: &[usize; 2]) -> bool {
-    let at = part(words, 1);
-    item(words, at, 0) == number
-        && value(words, at, 1) == carried[0]
-        && value(words, at, 2) == carried[1]
-}
+// The operations behind this one are on 32-bit floats.
+const LAST_WIDE: usize = 41;
 
 // Which file makes the call: those with lists first.
 fn group(op: usize) -> u8 {
@@ -43,76 +30,72 @@ fn group(op: usize) -> u8 {
     }
 }
 
-// As much of an array as the k-th part has words.
-fn front<'a>(words: &[u64], k: usize, list: &'a mut [f64]) -> &'a mut [f64] {
-    let n = count(words, part(words, k));
-    if list.len() < n {
-        return &mut list[..0];
+// The part of the first list that the call is lent; the next lists are lent too, or only read where it writes fewer.
+pub fn first_lent(op: usize) -> usize
+    ensures { λ r. ⌜ r ≤ 14 ⌝ }
+{
+    match op {
+        3 | 8 | 16 | 37 | 44 | 45 => 4,
+        23 | 39 | 40 | 47 => 6,
+        2 | 43 => 10,
+        41 => 12,
+        22 => 14,
+        _ => 8,
     }
-    &mut list[..n]
 }
 
-// Each list as long as the line has it.
 fn ask(
     words: &[u64],
-    a: &mut [f64],
-    b: &mut [f64],
-    c: &mut [f64],
-    d: &mut [f64],
-    e: &mut [f64],
-    f: &mut [f64],
-    g: &mut [f64],
-    h: &mut [f64],
+    all: &[f64],
+    p: &mut [f64],
+    q: &mut [f64],
+    r: &mut [f64],
+    s: &mut [f64],
+    t: &mut [f64],
     carried: &mut [usize; 2],
 ) -> u64 {
-    let a = front(words, 2, a);
-    let b = front(words, 4, b);
-    let c = front(words, 6, c);
-    let d = front(words, 8, d);
-    let e = front(words, 10, e);
-    let f = front(words, 12, f);
-    let g = front(words, 14, g);
-    let h = front(words, 16, h);
     match group(scalar(words, 0)) {
-        1 => on_lines::ask(words, a, b, c, d, e, f, carried),
-        2 => on_levels::ask(words, a, b, c, d, e, carried),
-        3 => on_planes::ask(words, a, b, c, d, e, f, g, h, carried),
-        4 => on_banks::ask(words, a, b, c, d, e, f, g, carried),
-        5 => on_pairs::ask(words, a, b, c, d, e, f, g, carried),
+        1 => on_lines::ask(words, all, p, q, r, carried),
+        2 => on_levels::ask(words, all, p, q, carried),
+        3 => on_planes::ask(words, all, p, q, r, s, t, carried),
+        4 => on_banks::ask(words, all, p, q, r, s, carried),
+        5 => on_pairs::ask(words, all, p, q, r, s, carried),
         _ => on_sizes::ask(words, carried),
     }
 }
 
-// The call of a line with up to eight lists, and whether it answers and leaves what the line says.
+// The call of a line that lends up to five lists, and whether it answers and leaves what the line says.
 pub fn agrees(words: &[u64]) -> bool {
-    let mut a = list(words, 2);
-    let mut b = list(words, 4);
-    let mut c = list(words, 6);
-    let mut d = list(words, 8);
-    let mut e = list(words, 10);
-    let mut f = list(words, 12);
-    let mut g = list(words, 14);
-    let mut h = list(words, 16);
+    if LAST_WIDE < scalar(words, 0) {
+        return asking_f32::agrees(words);
+    }
+    let first = first_lent(scalar(words, 0));
+    let second = first + 2;
+    let third = first + 4;
+    let fourth = first + 6;
+    let fifth = first + 8;
+    let all = floats(words);
+    let mut p = all;
+    let mut q = all;
+    let mut r = all;
+    let mut s = all;
+    let mut t = all;
     let mut carried = [BLANK; 2];
     let number = ask(
         words,
-        &mut a,
-        &mut b,
-        &mut c,
-        &mut d,
-        &mut e,
-        &mut f,
-        &mut g,
-        &mut h,
+        &all,
+        lent(words, first, &mut p),
+        lent(words, second, &mut q),
+        lent(words, third, &mut r),
+        lent(words, fourth, &mut s),
+        lent(words, fifth, &mut t),
         &mut carried,
     );
     told(words, number, &carried)
-        && same(words, 2, &a)
-        && same(words, 4, &b)
-        && same(words, 6, &c)
-        && same(words, 8, &d)
-        && same(words, 10, &e)
-        && same(words, 12, &f)
-        && same(words, 14, &g)
-        && same(words, 16, &h)
+        && kept(words, first, &all)
+        && same(words, first, &p)
+        && same(words, second, &q)
+        && same(words, third, &r)
+        && same(words, fourth, &s)
+        && same(words, fifth, &t)
 }

@@ -1,58 +1,50 @@
-// Floats by their bits; every NaN is one.
+// A line's words as floats: a call reads parts of one array of them, and each list that it is lent is a part of an array of its own.
 ghost use mathlib.Core.Path.{_≡_};
-ghost use lib.Ieee.{binary64, nanBits};
 ghost use lib.ListN.{length};
+use crate::bits::alike;
+use crate::bits::float;
 use crate::parts::behind;
 use crate::parts::count;
 use crate::parts::item;
 use crate::parts::part;
+use crate::parts::places;
+use crate::text::open;
+use numbers::least;
 
-// The bits of a NaN: above infinity's, without the sign.
-fn nan_bits(w: u64) -> bool
-    ensures { λ r. ⌜ r ≡ nanBits binary64 w ⌝ }
+// Each word as a float, and zeros behind them.
+pub fn floats(words: &[u64]) -> [f64; 8192]
+    ensures { λ r. ⌜ length r ≡ 8192 ⌝ }
 {
-    9218868437227405312 < w % 9223372036854775808
-}
-
-fn float(w: u64) -> f64 {
-    if nan_bits(w) {
-        return 0.0 / 0.0;
-    }
-    f64::from_bits(w)
-}
-
-fn alike(x: f64, w: u64) -> bool {
-    if x != x {
-        return nan_bits(w);
-    }
-    f64::to_bits(x) == w
-}
-
-// The floats of the k-th part, and zeros behind them.
-pub fn list(words: &[u64], k: usize) -> [f64; 1024]
-    ensures { λ r. ⌜ length r ≡ 1024 ⌝ }
-{
-    let at = part(words, k);
-    let n = count(words, at);
-    let mut list = [0.0f64; 1024];
+    let n = least(words.len(), 8192);
+    let mut all = [0.0f64; 8192];
     let mut i = 0usize;
     while i < n {
-        list[i] = float(item(words, at, i));
+        all[i] = float(words[i]);
         i += 1;
     }
-    list
+    all
 }
 
-// Whether a place is left open: only what a call leaves may be.
-fn open(w: u64, left: bool) -> bool {
-    left && w == crate::text::OPEN
+// The list that the k-th part tells.
+pub fn given<'a>(words: &[u64], k: usize, all: &'a [f64]) -> &'a [f64] {
+    let places = places(words, k, all.len());
+    let from = places.from;
+    let to = places.to;
+    &all[from..to]
 }
 
-// Whether the list is as the part at a place says, which tells what a call left or what it was given.
-fn as_told(words: &[u64], at: usize, left: bool, list: &[f64; 1024]) -> bool {
-    let n = count(words, at);
+// The same, to write to.
+pub fn lent<'a>(words: &[u64], k: usize, all: &'a mut [f64]) -> &'a mut [f64] {
+    let places = places(words, k, all.len());
+    let from = places.from;
+    let to = places.to;
+    &mut all[from..to]
+}
+
+// Whether a list is as the part at a place says, which tells what a call left or what it was given.
+fn as_told(words: &[u64], at: usize, left: bool, list: &[f64]) -> bool {
     let mut i = 0usize;
-    while i < n {
+    while i < list.len() {
         let w = item(words, at, i);
         if !open(w, left) && !alike(list[i], w) {
             return false;
@@ -62,16 +54,30 @@ fn as_told(words: &[u64], at: usize, left: bool, list: &[f64; 1024]) -> bool {
     true
 }
 
-// Whether a list that was as the k-th part says is as the next part says, or as it was where that says nothing.
-pub fn same(words: &[u64], k: usize, list: &[f64; 1024]) -> bool {
+// Whether the list that the k-th part told is then as the next part says, or as it was where that says nothing.
+pub fn same(words: &[u64], k: usize, all: &[f64; 8192]) -> bool {
+    let list = given(words, k, all);
     let before = part(words, k);
     let after = behind(words, before);
     let n = count(words, after);
     if n == 0 {
         return as_told(words, before, false, list);
     }
-    if n != count(words, before) {
-        return false;
+    n == list.len() && as_told(words, after, true, list)
+}
+
+// Whether each list is of words that are floats, and none in front of the k-th part is said to change: a call only reads those.
+pub fn kept(words: &[u64], k: usize, all: &[f64; 8192]) -> bool {
+    let mut i = 2usize;
+    while i < 18 {
+        let at = part(words, i);
+        if !as_told(words, at, false, given(words, i, all)) {
+            return false;
+        }
+        if i < k && count(words, behind(words, at)) != 0 {
+            return false;
+        }
+        i += 2;
     }
-    as_told(words, after, true, list)
+    true
 }

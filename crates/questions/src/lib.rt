@@ -1,11 +1,19 @@
 // Reads a call and what it has to answer from a text, makes the call, and says whether number, carried values and every lent buffer agree.
+mod answers;
 mod asking;
+mod asking_f32;
+mod bits;
+mod bits_f32;
 mod floats;
+mod floats_f32;
 mod on_banks;
+mod on_banks_f32;
 mod on_lengths;
 mod on_levels;
 mod on_lines;
+mod on_lines_f32;
 mod on_pairs;
+mod on_pairs_f32;
 mod on_planes;
 mod on_sizes;
 mod parts;

@@ -1,4 +1,5 @@
 // Entries that are not for C: they take a bank by value or hand out a part. What is handed out goes to a list that has to be as long.
+use crate::floats::given;
 use crate::on_lengths::back_told;
 use crate::on_lengths::handing_told;
 use crate::parts::scalar;
@@ -10,7 +11,7 @@ use numbers::copying::copy_to;
 use restoring::restoring_answer;
 use telling::borders::border_of;
 
-fn made(low: &[f64], high: &[f64], border: usize) -> Bank {
+pub fn made(low: &[f64], high: &[f64], border: usize) -> Bank {
     let made = bank(low, high, border_of(border));
     made.bank
 }
@@ -71,22 +72,23 @@ pub fn restored_line(
 
 pub fn ask(
     words: &[u64],
-    a: &mut [f64],
-    b: &mut [f64],
-    c: &mut [f64],
-    d: &mut [f64],
-    e: &mut [f64],
-    f: &mut [f64],
-    g: &mut [f64],
+    all: &[f64],
+    p: &mut [f64],
+    q: &mut [f64],
+    r: &mut [f64],
+    s: &mut [f64],
     carried: &mut [usize; 2],
 ) -> u64 {
+    let a = given(words, 2, all);
+    let b = given(words, 4, all);
+    let c = given(words, 6, all);
     match scalar(words, 0) {
         36 => back_told(
-            there_and_back(made(a, b, scalar(words, 1)), c, d, e, f, g),
+            there_and_back(made(a, b, scalar(words, 1)), c, p, q, r, s),
             carried,
         ),
-        37 => level_details(words, a, b, carried),
-        38 => restored_line(words, made(a, b, 0), c, d, e, f, carried),
+        37 => level_details(words, a, p, carried),
+        38 => restored_line(words, made(a, b, 0), c, p, q, r, carried),
         _ => crate::NO_CALL,
     }
 }

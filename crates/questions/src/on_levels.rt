@@ -1,4 +1,5 @@
 // Calls that lend lists of several levels, by their operation.
+use crate::floats::given;
 use crate::parts::scalar;
 use isferghul::packing;
 use isferghul::places;
@@ -23,21 +24,16 @@ fn read_place(words: &[u64], packed: &[f64], value: &mut [f64], told: &mut [usiz
     number
 }
 
-pub fn ask(
-    words: &[u64],
-    a: &mut [f64],
-    b: &mut [f64],
-    c: &mut [f64],
-    d: &mut [f64],
-    e: &mut [f64],
-    told: &mut [usize; 2],
-) -> u64 {
+pub fn ask(words: &[u64], all: &[f64], p: &mut [f64], q: &mut [f64], told: &mut [usize; 2]) -> u64 {
     let first = scalar(words, 1);
     let second = scalar(words, 2);
+    let a = given(words, 2, all);
+    let b = given(words, 4, all);
+    let c = given(words, 6, all);
     match scalar(words, 0) {
-        14 => packing::isferghul_analyse_levels(first, a, b, c, second, d, e, told),
-        15 => packing::isferghul_restore_levels(a, b, c, first, second, d, e, told),
-        16 => read_place(words, a, b, told),
+        14 => packing::isferghul_analyse_levels(first, a, b, c, second, p, q, told),
+        15 => packing::isferghul_restore_levels(a, b, c, first, second, p, q, told),
+        16 => read_place(words, a, p, told),
         _ => crate::NO_CALL,
     }
 }

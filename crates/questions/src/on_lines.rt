@@ -1,4 +1,5 @@
 // Calls that lend lists of one line, by their operation.
+use crate::floats::given;
 use crate::parts::scalar;
 use crate::parts::signed;
 use isferghul::lines;
@@ -6,20 +7,22 @@ use isferghul::taps;
 
 pub fn ask(
     words: &[u64],
-    a: &mut [f64],
-    b: &mut [f64],
-    c: &mut [f64],
-    d: &mut [f64],
-    e: &mut [f64],
-    f: &mut [f64],
+    all: &[f64],
+    p: &mut [f64],
+    q: &mut [f64],
+    r: &mut [f64],
     told: &mut [usize; 2],
 ) -> u64 {
     let border = scalar(words, 1);
+    let a = given(words, 2, all);
+    let b = given(words, 4, all);
+    let c = given(words, 6, all);
+    let d = given(words, 8, all);
     match scalar(words, 0) {
-        1 => lines::isferghul_analyse(border, a, b, c, d, e, f, told),
-        2 => lines::isferghul_synthesise(a, b, c, d, e, told),
-        3 => lines::isferghul_convolve(border, a, b, c, d, signed(words, 2), told),
-        8 => taps::isferghul_mirror(a, b),
+        1 => lines::isferghul_analyse(border, a, b, c, p, q, r, told),
+        2 => lines::isferghul_synthesise(a, b, c, d, p, told),
+        3 => lines::isferghul_convolve(border, a, p, q, d, signed(words, 2), told),
+        8 => taps::isferghul_mirror(a, p),
         _ => crate::NO_CALL,
     }
 }

@@ -1,4 +1,5 @@
 // Entries by a bank of two pairs: one list has the four of taps one after another, and their lengths are told.
+use crate::floats::given;
 use crate::on_banks::restored_line;
 use crate::on_lengths::back_told;
 use crate::parts::scalar;
@@ -53,7 +54,7 @@ fn joining(words: &[u64], taps: &[f64]) -> Bank {
     )
 }
 
-fn back_by_pairs(
+pub fn back_by_pairs(
     words: &[u64],
     taps: &[f64],
     line: &[f64],
@@ -112,19 +113,22 @@ fn plane_by_pairs(
 
 pub fn ask(
     words: &[u64],
-    a: &mut [f64],
-    b: &mut [f64],
-    c: &mut [f64],
-    d: &mut [f64],
-    e: &mut [f64],
-    f: &mut [f64],
-    g: &mut [f64],
+    all: &[f64],
+    p: &mut [f64],
+    q: &mut [f64],
+    r: &mut [f64],
+    s: &mut [f64],
     carried: &mut [usize; 2],
 ) -> u64 {
+    let a = given(words, 2, all);
+    let b = given(words, 4, all);
+    let c = given(words, 6, all);
+    let d = given(words, 8, all);
+    let e = given(words, 10, all);
     match scalar(words, 0) {
-        39 => back_by_pairs(words, a, b, c, d, e, f, carried),
-        40 => restored_by_pairs(words, a, b, c, d, e, carried),
-        41 => plane_by_pairs(words, a, b, c, d, e, f, g, carried),
+        39 => back_by_pairs(words, a, b, p, q, r, s, carried),
+        40 => restored_by_pairs(words, a, b, p, q, r, carried),
+        41 => plane_by_pairs(words, a, b, c, d, e, p, q, carried),
         _ => crate::NO_CALL,
     }
 }

@@ -33,6 +33,24 @@ pub fn part(words: &[u64], k: usize) -> usize {
     at
 }
 
+// From which place to which.
+pub struct Range {
+    pub from: usize,
+    pub to: usize,
+}
+
+// Where the words of the k-th part stand, within the first n.
+pub fn places(words: &[u64], k: usize, n: usize) -> Range
+    ensures { λ r. ⌜ (r .from ≤ r .to) × (r .to ≤ n) ⌝ }
+{
+    let at = part(words, k);
+    let from = least(least(at, 8192) + 1, n);
+    Range {
+        from,
+        to: from + least(count(words, at), n - from),
+    }
+}
+
 // A word of a part; 0 past its end.
 pub fn item(words: &[u64], at: usize, i: usize) -> u64 {
     if count(words, at) <= i {

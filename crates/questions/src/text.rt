@@ -5,7 +5,12 @@ ghost use lib.ListN.{length};
 use numbers::least;
 
 // The word that stands for a place left open.
-pub const OPEN: u64 = 18446744073709551615;
+const OPEN: u64 = 18446744073709551615;
+
+// Whether a place is left open: only what a call leaves may be.
+pub fn open(word: u64, left: bool) -> bool {
+    left && word == OPEN
+}
 
 // What a digit is worth; 16 for any other byte.
 fn digit(c: u8) -> u64 {

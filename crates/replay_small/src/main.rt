@@ -3,7 +3,7 @@ use questions::replay;
 use questions::saying::say;
 
 fn main() {
-    let mut list = [0u8; 32768];
+    let mut list = [0u8; 65536];
     let n = io::read_full(libc::STDIN_FILENO, &mut list);
     say(replay(&list[..n]));
 }

@@ -1,4 +1,4 @@
--- Both sums of one place, and of several. Definitions: Sums, Pairs. Laws: Turns.
+-- Both sums of one place, and of several. Definitions: Sums, Works. Laws: Turns.
 pub mod Sums
-pub mod Pairs
+pub mod Works
 pub mod Turns

@@ -5,7 +5,7 @@ use mathlib.Core.List.{List, [], _∷_}
 use Prim.Native.Nat.{ℕ, _+_, _*_}
 use lib.Dec.{ltb, leb, eqb}
 use lib.ListN.{length}
-use lib.Ieee.{Float, binary64}
+use lib.Ieee.{Float, Format}
 use Rattle.numbers.specs.Words.{longest, whenDone}
 use Rattle.synthesis.specs.declared.Synthesis.{Synthesis}
 use Rattle.synthesis.specs.declared.Synthesis.the-variants.{Done, ApproxDetailsNotMatches, OutputSizeIsNotValid, ZeroedBaseSize, Limit, Taps}
@@ -39,7 +39,7 @@ answerOf f a d o =
     (cond (not (eqb o (lineLength a f))) (OutputSizeIsNotValid o (lineLength a f))
     Done))))
 
--- by the first f of either tap list: of a bank its arrays and count
-pub record Synthesised (low high : List Float) (f : ℕ) (approx detail out : List Float) (r : Synthesis) (out′ : List Float) : Type 0 where
+-- in a format, by the first f of either tap list: of a bank its arrays and count
+pub record Synthesised (w : Format) (low high : List Float) (f : ℕ) (approx detail out : List Float) (r : Synthesis) (out′ : List Float) : Type 0 where
   pub answer : r ≡ answerOf f (length approx) (length detail) (length out)
-  pub joined : out′ ≡ whenDone (numberOf r) (synthesised binary64 f low high approx detail out) out
+  pub joined : out′ ≡ whenDone (numberOf r) (synthesised w f low high approx detail out) out

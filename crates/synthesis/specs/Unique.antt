@@ -2,10 +2,10 @@
 use mathlib.Core.Path.{_≡_, sym, _∙_}
 use mathlib.Core.List.{List}
 use Prim.Native.Nat.{ℕ}
-use lib.Ieee.{Float}
+use lib.Ieee.{Float, Format}
 use Rattle.synthesis.specs.declared.Synthesis.{Synthesis}
 use Rattle.synthesis.specs.Syntheses.{Synthesised}
 
-pub unique-synthesise : {low high : List Float} {f : ℕ} {approx detail out : List Float} {r r′ : Synthesis} {o o′ : List Float}
-    → Synthesised low high f approx detail out r o → Synthesised low high f approx detail out r′ o′ → (r ≡ r′) × (o ≡ o′)
+pub unique-synthesise : {w : Format} {low high : List Float} {f : ℕ} {approx detail out : List Float} {r r′ : Synthesis} {o o′ : List Float}
+    → Synthesised w low high f approx detail out r o → Synthesised w low high f approx detail out r′ o′ → (r ≡ r′) × (o ≡ o′)
 unique-synthesise p q = let e = p .answer ∙ sym (q .answer) in (e, (cc))

@@ -3,6 +3,7 @@ pub mod lists;
 pub mod work;
 
 ghost use mathlib.Core.Path.{_≡_};
+ghost use lib.Ieee.{binary64};
 ghost use Rattle.synthesis.specs.Syntheses.{answerOf, Synthesised};
 use bank::Bank;
 use bank::lengths::idwt_length;
@@ -46,7 +47,7 @@ pub fn synthesis_answer(f: usize, approx: usize, detail: usize, out: usize) -> S
 
 // Both bands joined onto what the output held.
 pub fn synthesise(bank: Bank, approx: &[f64], detail: &[f64], out: &mut [f64]) -> Synthesis
-    ensures { λ r. ⌜ Synthesised (bank .lowback) (bank .highback) (bank .taps) (now (approx .entry)) (now (detail .entry)) (now (out .entry)) r (now (out .exit)) ⌝ }
+    ensures { λ r. ⌜ Synthesised binary64 (bank .lowback) (bank .highback) (bank .taps) (now (approx .entry)) (now (detail .entry)) (now (out .entry)) r (now (out .exit)) ⌝ }
 {
     let f = bank.taps;
     // lent in place, the whole bank would be copied

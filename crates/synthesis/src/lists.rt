@@ -1,5 +1,6 @@
 // Synthesis by tap lists, for an entry that has a bank and for one that has the caller's own lists.
 ghost use lib.ListN.{length};
+ghost use lib.Ieee.{binary64};
 ghost use Rattle.bank.specs.Lengths.{Counted};
 ghost use Rattle.synthesis.specs.Syntheses.{Synthesised};
 use crate::Synthesis;
@@ -16,7 +17,7 @@ pub fn synthesise<'a>(
     out: &mut [f64],
 ) -> Synthesis
     requires { ⌜ Counted f (length (now low)) (length (now high)) ⌝ }
-    ensures { λ r. ⌜ Synthesised (now (low .entry)) (now (high .entry)) f (now (approx .entry)) (now (detail .entry)) (now (out .entry)) r (now (out .exit)) ⌝ }
+    ensures { λ r. ⌜ Synthesised binary64 (now (low .entry)) (now (high .entry)) f (now (approx .entry)) (now (detail .entry)) (now (out .entry)) r (now (out .exit)) ⌝ }
 {
     let answer = synthesis_answer(f, approx.len(), detail.len(), out.len());
     let Synthesis::Done = answer else {

@@ -3,7 +3,7 @@ use mathlib.Core.List.{List}
 use Prim.Native.Nat.{ℕ}
 use denote.Ref.{RefT}
 use lib.ListN.{length}
-use lib.Ieee.{Float}
+use lib.Ieee.{Float, binary64}
 use Rattle.numbers.specs.Words.{at, whenDone}
 use Rattle.border.specs.declared.Border.{Border}
 use Rattle.bank.specs.declared.Bank.{Bank}
@@ -24,11 +24,11 @@ use Rattle.exact.specs.Backs as Backs
 -- what an entry promises of this bank it promises of the one pair l and h, f taps of each, under b
 pub record GivesAsBefore (bank : Bank) (l h : List Float) (f : ℕ) (b : Border) : Type 0 where
   pub analyse : {line approx detail scratch : List Float} {r : Analysis} {approx′ detail′ scratch′ : List Float}
-      → Analyses.Analysed (bank .low) (bank .high) (bank .taps) (bank .border) line approx detail scratch r approx′ detail′ scratch′
-      → Analyses.Analysed l h f b line approx detail scratch r approx′ detail′ scratch′
+      → Analyses.Analysed binary64 (bank .low) (bank .high) (bank .taps) (bank .border) line approx detail scratch r approx′ detail′ scratch′
+      → Analyses.Analysed binary64 l h f b line approx detail scratch r approx′ detail′ scratch′
   pub synthesise : {approx detail out : List Float} {r : Synthesis} {out′ : List Float}
-      → Syntheses.Synthesised (bank .lowback) (bank .highback) (bank .taps) approx detail out r out′
-      → Syntheses.Synthesised l h f approx detail out r out′
+      → Syntheses.Synthesised binary64 (bank .lowback) (bank .highback) (bank .taps) approx detail out r out′
+      → Syntheses.Synthesised binary64 l h f approx detail out r out′
   pub analyse-levels : {line : List Float} {levels : ℕ} {packed scratch : List Float} {r : Levels} {packed′ scratch′ : List Float}
       → LevelAnalyses.Analysed (bank .low) (bank .high) (bank .taps) (bank .border) line levels packed scratch r packed′ scratch′
       → LevelAnalyses.Analysed l h f b line levels packed scratch r packed′ scratch′
@@ -45,8 +45,8 @@ pub record GivesAsBefore (bank : Bank) (l h : List Float) (f : ℕ) (b : Border)
       → PlaneSyntheses.Synthesised (bank .lowback) (bank .highback) (bank .taps) ll lh hl hh width height plane scratch r plane′ scratch′
       → PlaneSyntheses.Synthesised l h f ll lh hl hh width height plane scratch r plane′ scratch′
   pub there-and-back : {line approx detail scratch out : List Float} {r : Back} {approx′ detail′ scratch′ out′ : List Float}
-      → Backs.Returned (bank .low) (bank .high) (bank .lowback) (bank .highback) (bank .taps) (bank .border) line approx detail scratch out r approx′ detail′ scratch′ out′
-      → Backs.Returned l h l h f b line approx detail scratch out r approx′ detail′ scratch′ out′
+      → Backs.Returned binary64 (bank .low) (bank .high) (bank .lowback) (bank .highback) (bank .taps) (bank .border) line approx detail scratch out r approx′ detail′ scratch′ out′
+      → Backs.Returned binary64 l h l h f b line approx detail scratch out r approx′ detail′ scratch′ out′
 
 -- that pair of a bank made of low taps and of high ones, told by their places; k is the answer's number, and beside a refusal there was no tap
 abbrev pub AsBefore : Bank → ℕ → List Float → (ℕ → Float) → Border → Type 0

@@ -25,16 +25,16 @@ use Rattle.worked.specs.Premised.{pairs-premised}
 use Rattle.worked.specs.Whole.{floats}
 
 -- ---- the 5/3 pair, its taps made whole and filled to six: S = 16, T = 12
-abbrev fiveLow : List ℤ
+abbrev pub fiveLow : List ℤ
 fiveLow = negsuc 0 ∷ pos 2 ∷ pos 6 ∷ pos 2 ∷ negsuc 0 ∷ pos 0 ∷ []
 
-abbrev fiveHigh : List ℤ
+abbrev pub fiveHigh : List ℤ
 fiveHigh = pos 0 ∷ pos 0 ∷ negsuc 0 ∷ pos 2 ∷ negsuc 0 ∷ pos 0 ∷ []
 
-abbrev fiveLowback : List ℤ
+abbrev pub fiveLowback : List ℤ
 fiveLowback = pos 0 ∷ pos 1 ∷ pos 2 ∷ pos 1 ∷ pos 0 ∷ pos 0 ∷ []
 
-abbrev fiveHighback : List ℤ
+abbrev pub fiveHighback : List ℤ
 fiveHighback = pos 0 ∷ negsuc 0 ∷ negsuc 1 ∷ pos 6 ∷ negsuc 1 ∷ negsuc 0 ∷ []
 
 -- high tap 2 is not the mirror rule's, and the way back has another first tap

@@ -113,5 +113,5 @@ answered (Restore low high approx detail) =
     synthesising f m (Line (joinOf binary64 f (floats low) (floats high) (lineLength m f) (floats approx) (floats detail)))
 answered (Factor low) = Line (ofInt binary64 (squares (map whole low)) ∷ [])
 answered (Convolve b line kernel c) =
-    convolving b (length line) (length kernel) (whole c) (Line (Convolutions.convolvedLine b (floats line) (floats kernel) (whole c)))
+    convolving b (length line) (length kernel) (whole c) (Line (Convolutions.convolvedLine binary64 b (floats line) (floats kernel) (whole c)))
 answered (Plane b w h low high plane) = analysingPlane (length low) w h (Line (planeBand binary64 (floats low) (floats low) (length low) b (floats plane) w h))

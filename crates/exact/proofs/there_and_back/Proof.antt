@@ -4,6 +4,7 @@ use denote.Enum.Declared.{tagOf, declared}
 use lib.Dec.{lit<}
 use mathlib.Core.Path.{refl}
 use Rattle.numbers.specs.Tests.{key-above, other}
+use lib.Ieee.{binary64}
 use Rattle.exact.specs.Calls.{returned-refused, returned-done}
 use Rattle.exact.proofs.Back.{enum}
 use Rattle.exact.proofs.there_and_back.Statement.{statement}
@@ -17,7 +18,7 @@ enum-told c = search needs
 
 returns : tie.Need-returns
 returns c = let r = c .before .back-answer .result in
-    returned-refused _ _ _ _ _ _ _ _ _ _ _ (c .before .back-answer .ensures) (other (tagOf (declared enum)) r refl (key-above 1 1 _ (lit< tt) (c .match .keys2)))
+    returned-refused binary64 _ _ _ _ _ _ _ _ _ _ _ (c .before .back-answer .ensures) (other (tagOf (declared enum)) r refl (key-above 1 1 _ (lit< tt) (c .match .keys2)))
 
 analyse-requires : tie.Need-analyse-requires
 analyse-requires c κs = search needs
@@ -46,7 +47,7 @@ returns-2 c =
     let clear = back .before .before .before .before .before .before .before .before .before .before .before in
     let there = clear .before .before .before .before .before .before .before .before in
     let told = there .before .before .before .before .before .before .before .before .before in
-    returned-done _ _ _ _ _ _ _ _ _ _ _ (told .before .before .back-answer .ensures) (told .enum-told .given .1) (there .analyse .ensures) (clear .clear .ensures) (back .synthesise .ensures)
+    returned-done binary64 _ _ _ _ _ _ _ _ _ _ _ (told .before .before .back-answer .ensures) (told .enum-told .given .1) (there .analyse .ensures) (clear .clear .ensures) (back .synthesise .ensures)
 
 pub there-and-back-spec : {M : Type 1} → statement M
 there-and-back-spec =

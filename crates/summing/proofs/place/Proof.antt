@@ -17,7 +17,7 @@ abbrev μ-loop : tie.MeasureT-loop
 μ-loop low high f padded from sums₀ j₀ sums j = f - j
 
 loop-holds : tie.Need-loop-holds Inv-loop μ-loop
-loop-holds c = let a = c .before .before .before .args in (search needs, sum-start (now (a .low)) (now (a .padded)) (a .from), sum-start (now (a .high)) (now (a .padded)) (a .from))
+loop-holds c = let a = c .before .before .before .args in (search needs, sum-start binary64 (now (a .low)) (now (a .padded)) (a .from), sum-start binary64 (now (a .high)) (now (a .padded)) (a .from))
 
 mul-tap : tie.Need-mul-tap Inv-loop μ-loop
 mul-tap c = search needs

@@ -1,17 +1,15 @@
 -- `analysis::work::eights` meets its contract: each turn puts eight places of both bands.
 use borrow.Author.Needs.{needs}
 use Prim.Native.Nat.{_-_, _≤_}
-use mathlib.Core.Bool.{true, false}
 use mathlib.Core.Path.{_≡_, _∙_}
 use denote.Ref.{now}
 use lib.ListN.{length}
 use lib.Ieee.{binary64}
 use native.Mathlib.Omega.{arith}
-use Rattle.numbers.specs.Words.{written}
+use Rattle.numbers.specs.Words.{at, written}
 use Rattle.numbers.specs.Write.{written-start}
 use Rattle.numbers.specs.Runs.{written-run}
-use Rattle.summing.specs.Pairs.{pairAt, sumOf}
-use Rattle.analysis.specs.Pairs.{sums-at}
+use Rattle.analysis.specs.Turns.{sums-at}
 use Rattle.analysis.specs.Works.{bandOf}
 use Rattle.analysis.proofs.work.eights.Statement.{statement}
 use Rattle.analysis.proofs.work.eights.Tie as tie
@@ -49,16 +47,15 @@ loop-less : tie.Need-loop-less Inv-loop μ-loop
 loop-less c = search needs
 
 loop-again : tie.Need-loop-again Inv-loop μ-loop
-loop-again c = let d = c .before .before in let p = d .before .before .before .before in let g = p .before .before in let test = g .before in let l = test .before in
-    let s = l .before .before .before .before .before .before in let a = s .args in let low = now (a .low) in let high = now (a .high) in let line = now (a .padded) in let pairs = g .eight .result in
-    let both = sums-at binary64 low high line (a .f) (l .loop .i) 8 pairs (g .eight .ensures) in (
+loop-again c = let d = c .before .before in let p = d .before .before .before .before in let g = p .before .before .before .before in let test = g .before in let l = test .before in
+    let s = l .before .before .before .before .before .before in let a = s .args in let low = now (a .low) in let high = now (a .high) in let line = now (a .padded) in let sums = g .eight .result in (
       omega (arith, test .loop-test .taken),
-      p .put .kept .1 .1 .0 ∙ l .loop .inv .1,
-      d .put2 .kept .1 .1 .0 ∙ l .loop .inv .2,
-      written-run (bandOf binary64 low (a .f) line) (l .loop .i) 8 (now (a .approx)) (λ q. sumOf false (pairAt pairs q)) (omega (arith, test .loop-test .taken)) (l .loop .inv .3)
-          (λ q k. both q k .0) (p .put .ensures),
-      written-run (bandOf binary64 high (a .f) line) (l .loop .i) 8 (now (a .detail)) (λ q. sumOf true (pairAt pairs q)) (omega (arith, test .loop-test .taken, s .pre .both)) (l .loop .inv .4)
-          (λ q k. both q k .1) (d .put2 .ensures),
+      p .put .kept .1 .0 ∙ l .loop .inv .1,
+      d .put2 .kept .1 .0 ∙ l .loop .inv .2,
+      written-run (bandOf binary64 low (a .f) line) (l .loop .i) 8 (now (a .approx)) (at (sums .approx)) (omega (arith, test .loop-test .taken)) (l .loop .inv .3)
+          (sums-at binary64 low line (a .f) (l .loop .i) 8 (g .eight .ensures .0)) (p .put .ensures),
+      written-run (bandOf binary64 high (a .f) line) (l .loop .i) 8 (now (a .detail)) (at (sums .detail)) (omega (arith, test .loop-test .taken, s .pre .both)) (l .loop .inv .4)
+          (sums-at binary64 high line (a .f) (l .loop .i) 8 (g .eight .ensures .1)) (d .put2 .ensures),
     )
 
 same-length : tie.Need-same-length Inv-loop μ-loop

@@ -1,14 +1,13 @@
 -- `analysis::work::eights_beside` meets its contract: each turn puts eight places of either half.
 use borrow.Author.Needs.{needs}
 use Prim.Native.Nat.{_-_, _≤_}
-use mathlib.Core.Bool.{true, false}
 use mathlib.Core.Path.{_≡_, _∙_}
 use denote.Ref.{now}
 use lib.ListN.{length}
 use lib.Ieee.{binary64}
 use native.Mathlib.Omega.{arith}
-use Rattle.summing.specs.Pairs.{pairAt, sumOf}
-use Rattle.analysis.specs.Pairs.{sums-at}
+use Rattle.numbers.specs.Words.{at}
+use Rattle.analysis.specs.Turns.{sums-at}
 use Rattle.analysis.specs.Works.{bandOf, Halves}
 use Rattle.analysis.specs.Halves.{halves-start, beside-run}
 use Rattle.analysis.proofs.work.eights_beside.Statement.{statement}
@@ -48,14 +47,13 @@ loop-less : tie.Need-loop-less Inv-loop μ-loop
 loop-less c = search needs
 
 loop-again : tie.Need-loop-again Inv-loop μ-loop
-loop-again c = let v = c .before .before in let u = v .before .before .before .before in let g = u .before .before in let test = g .before in let l = test .before in
-    let s = l .before .before .before .before .before in let a = s .args in let low = now (a .low) in let high = now (a .high) in let line = now (a .padded) in let pairs = g .eight .result in
-    let both = sums-at binary64 low high line (a .f) (l .loop .i) 8 pairs (g .eight .ensures) in (
+loop-again c = let v = c .before .before in let u = v .before .before .before .before in let g = u .before .before .before .before in let test = g .before in let l = test .before in
+    let s = l .before .before .before .before .before in let a = s .args in let low = now (a .low) in let high = now (a .high) in let line = now (a .padded) in let sums = g .eight .result in (
       omega (arith, test .loop-test .taken),
-      v .put2 .kept .1 .1 .0 ∙ u .put .kept .1 .1 .0 ∙ l .loop .inv .1,
-      beside-run (bandOf binary64 high (a .f) line) (bandOf binary64 low (a .f) line) (λ q. sumOf true (pairAt pairs q)) (λ q. sumOf false (pairAt pairs q)) (a .m) (l .loop .i) 8 (now (a .both)) (l .loop .both)
+      v .put2 .kept .1 .0 ∙ u .put .kept .1 .0 ∙ l .loop .inv .1,
+      beside-run (bandOf binary64 high (a .f) line) (bandOf binary64 low (a .f) line) (at (sums .detail)) (at (sums .approx)) (a .m) (l .loop .i) 8 (now (a .both)) (l .loop .both)
           (omega (arith, test .loop-test .taken)) (s .pre .filled) (l .loop .inv .2)
-          (λ q k. both q k .1) (λ q k. both q k .0)
+          (sums-at binary64 high line (a .f) (l .loop .i) 8 (g .eight .ensures .1)) (sums-at binary64 low line (a .f) (l .loop .i) 8 (g .eight .ensures .0))
           (u .put .ensures) (v .put2 .ensures),
     )
 

@@ -4,13 +4,12 @@ use borrow.Rule.Slice.PartMut.{mid-len}
 use Prim.Native.Nat.{_+_, _-_, _≤_}
 use native.Mathlib.Omega.{arith}
 use mathlib.Core.List.{List}
-use mathlib.Core.Bool.{true, false}
 use mathlib.Core.Path.{_≡_, _∙_, ap}
 use denote.Ref.{now}
 use lib.ListN.{length, take, drop}
 use lib.Ieee.{Float, binary64}
-use Rattle.summing.specs.Pairs.{pairAt, sumOf}
-use Rattle.analysis.specs.Pairs.{sums-at}
+use Rattle.numbers.specs.Words.{at}
+use Rattle.analysis.specs.Turns.{sums-at}
 use Rattle.analysis.specs.Works.{bandOf, Halves, lineAt}
 use Rattle.analysis.specs.Halves.{halves-start, halves-run, line-same}
 use Rattle.analysis.proofs.work.eights_within.Statement.{statement}
@@ -67,7 +66,7 @@ add-put : tie.Need-add-put Inv-loop μ-loop
 add-put c = search needs
 
 put-requires : tie.Need-put-requires Inv-loop μ-loop
-put-requires c κs = omega (arith, room (c .before .before .before .before))
+put-requires c κs = omega (arith, room (c .before .before .before .before .before .before))
 
 add-put-2 : tie.Need-add-put-2 Inv-loop μ-loop
 add-put-2 c = search needs
@@ -76,7 +75,7 @@ add-put-3 : tie.Need-add-put-3 Inv-loop μ-loop
 add-put-3 c = search needs
 
 put-requires-2 : tie.Need-put-requires-2 Inv-loop μ-loop
-put-requires-2 c κs = let p = c .before .before .before in omega (arith, p .put .kept .1 .1 .0, room (p .before .before .before .before .before))
+put-requires-2 c κs = let p = c .before .before .before in omega (arith, p .put .kept .1 .0, room (p .before .before .before .before .before .before .before))
 
 add-i : tie.Need-add-i Inv-loop μ-loop
 add-i c = search needs
@@ -88,7 +87,7 @@ loop-again : tie.Need-loop-again Inv-loop μ-loop
 loop-again c =
     let d = c .before .before in
     let p = d .before .before .before .before in
-    let g = p .before .before in
+    let g = p .before .before .before .before in
     let w = g .before .before .before in
     let l = w .before in
     let e = l .before in
@@ -99,14 +98,14 @@ loop-again c =
     let low = now (a .low) in
     let high = now (a .high) in
     let line = lineAt (a .f) (a .from) (a .m) x in
-    let pairs = g .eight .result in
+    let sums = g .eight .result in
     let there = take (a .from + e .padded-length .result - a .from) (drop (a .from) (l .loop .s)) in
     let same : there ≡ line = line-same _ _ (a .f) (a .from) (a .to) (a .m) i (a .from + e .padded-length .result - a .from) x (l .loop .s) (s .pre .before) (omega (arith, e .padded-length .ensures)) (l .loop .inv .1) in (
       omega (arith, w .loop-test .taken),
-      halves-run (bandOf binary64 low (a .f) line) (bandOf binary64 high (a .f) line) (λ q. sumOf false (pairAt pairs q)) (λ q. sumOf true (pairAt pairs q)) (a .to) (a .m) i 8 x (l .loop .s)
+      halves-run (bandOf binary64 low (a .f) line) (bandOf binary64 high (a .f) line) (at (sums .approx)) (at (sums .detail)) (a .to) (a .m) i 8 x (l .loop .s)
           (omega (arith, w .loop-test .taken)) (omega (arith, s .pre .before, s .pre .within)) (l .loop .inv .1)
-          (λ q k. sums-at binary64 low high there (a .f) i 8 pairs (g .eight .ensures) q k .0 ∙ ap (λ (y : List Float). bandOf binary64 low (a .f) y (i + q)) same)
-          (λ q k. sums-at binary64 low high there (a .f) i 8 pairs (g .eight .ensures) q k .1 ∙ ap (λ (y : List Float). bandOf binary64 high (a .f) y (i + q)) same)
+          (λ q k. sums-at binary64 low there (a .f) i 8 (g .eight .ensures .0) q k ∙ ap (λ (y : List Float). bandOf binary64 low (a .f) y (i + q)) same)
+          (λ q k. sums-at binary64 high there (a .f) i 8 (g .eight .ensures .1) q k ∙ ap (λ (y : List Float). bandOf binary64 high (a .f) y (i + q)) same)
           (p .put .ensures) (d .put2 .ensures),
     )
 

@@ -12,7 +12,7 @@ use Rattle.convolution.proofs.work.rest.Statement.{statement}
 use Rattle.convolution.proofs.work.rest.Tie as tie
 
 abbrev Inv-loop : tie.InvT-loop
-Inv-loop kernel padded out₀ from x₀ out x = (x ≤ length out₀) × (length out ≡ length out₀) × Summed kernel padded x out
+Inv-loop kernel padded out₀ from x₀ out x = (x ≤ length out₀) × (length out ≡ length out₀) × Summed binary64 kernel padded x out
 
 abbrev μ-loop : tie.MeasureT-loop
 μ-loop kernel padded out₀ from x₀ out x = length out₀ - x

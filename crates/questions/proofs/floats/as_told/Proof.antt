@@ -1,17 +1,15 @@
--- `as_told` is safe and ends: each turn reads one place more, within the array.
+-- `as_told` is safe and ends: each turn reads one place more of the list.
 use Prim.Native.Nat.{_≤_, _-_}
+use lib.ListN.{length}
 use borrow.Author.Needs.{needs}
 use Rattle.questions.proofs.floats.as_told.Statement.{statement}
 use Rattle.questions.proofs.floats.as_told.Tie as tie
 
 abbrev Inv-loop : tie.InvT-loop
-Inv-loop words at left list n i₀ i = i ≤ n
+Inv-loop words at left list i₀ i = i ≤ length list
 
 abbrev μ-loop : tie.MeasureT-loop
-μ-loop words at left list n i₀ i = n - i
-
-count-requires : tie.Need-count-requires Inv-loop μ-loop
-count-requires c κs = search needs
+μ-loop words at left list i₀ i = length list - i
 
 loop-holds : tie.Need-loop-holds Inv-loop μ-loop
 loop-holds c = search needs
@@ -25,8 +23,8 @@ open-requires c κs = search needs
 mul-alike : tie.Need-mul-alike Inv-loop μ-loop
 mul-alike c = search needs
 
-element-copy-out-alike : tie.Need-element-copy-out-alike Inv-loop μ-loop
-element-copy-out-alike c = search needs
+shared-slice-read-alike : tie.Need-shared-slice-read-alike Inv-loop μ-loop
+shared-slice-read-alike c = search needs
 
 alike-requires : tie.Need-alike-requires Inv-loop μ-loop
 alike-requires c κs = search needs
@@ -52,12 +50,11 @@ as-told-spec =
     (tie.spec
     Inv-loop
     μ-loop
-    count-requires
     loop-holds
     item-requires
     open-requires
     mul-alike
-    element-copy-out-alike
+    shared-slice-read-alike
     alike-requires
     returns
     add-i

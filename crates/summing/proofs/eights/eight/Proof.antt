@@ -1,24 +1,27 @@
--- `summing::eights::eight` meets its contract: after j taps the pairs hold the sums of j taps of eight places.
+-- `summing::eights::eight` meets its contract: after j taps both lists hold the sums of j taps of eight places.
 use borrow.Author.Needs.{needs}
 use Prim.Native.Nat.{_-_, _≤_}
-use mathlib.Core.Path.{_≡_}
+use mathlib.Core.Path.{_≡_, _∙_, ap}
 use denote.Ref.{now}
+use lib.ListN.{length}
 use lib.Ieee.{binary64}
 use Rattle.numbers.specs.Words.{tab}
-use Rattle.summing.specs.Pairs.{sumsAt}
-use Rattle.summing.specs.Turns.{eight-none, pairs-end, pairs-step}
-use Rattle.numbers.specs.Tests.{literal-zero}
+use Rattle.numbers.specs.Write.{length-tab}
+use Rattle.summing.specs.Works.{sumsAt}
+use Rattle.summing.specs.Turns.{sums-start, sums-step, sums-end}
 use Rattle.summing.proofs.eights.eight.Statement.{statement}
 use Rattle.summing.proofs.eights.eight.Tie as tie
 
 abbrev Inv-loop : tie.InvT-loop
-Inv-loop low high f padded from sums₀ j₀ sums j = (j ≤ f) × (sums ≡ tab (sumsAt binary64 low high padded from j) 8)
+Inv-loop low high f padded from approx₀ detail₀ j₀ approx detail j =
+    (j ≤ f) × (length approx ≡ 8) × (length detail ≡ 8) × (approx ≡ tab (sumsAt binary64 low padded from j) 8) × (detail ≡ tab (sumsAt binary64 high padded from j) 8)
 
 abbrev μ-loop : tie.MeasureT-loop
-μ-loop low high f padded from sums₀ j₀ sums j = f - j
+μ-loop low high f padded from approx₀ detail₀ j₀ approx detail j = f - j
 
 loop-holds : tie.Need-loop-holds Inv-loop μ-loop
-loop-holds c = let a = c .before .before .before .args in (search needs, eight-none (now (a .low)) (now (a .high)) (now (a .padded)) (a .from) (literal-zero binary64))
+loop-holds c = let a = c .before .before .before .args in
+    (search needs, search needs, search needs, sums-start binary64 (now (a .low)) (now (a .padded)) (a .from), sums-start binary64 (now (a .high)) (now (a .padded)) (a .from))
 
 mul-tap-eight : tie.Need-mul-tap-eight Inv-loop μ-loop
 mul-tap-eight c = search needs
@@ -45,14 +48,16 @@ loop-less : tie.Need-loop-less Inv-loop μ-loop
 loop-less c = search needs
 
 loop-again : tie.Need-loop-again Inv-loop μ-loop
-loop-again c = let l = c .before .before .before .before in let a = l .before .before .before .before .args in (
-  search needs,
-  pairs-step binary64 (now (a .low)) (now (a .high)) (now (a .padded)) (a .from) (l .loop .j) 8 (l .loop .inv .1) (c .tap-eight .ensures),
-)
+loop-again c = let l = c .before .before .before .before .before .before in let a = l .before .before .before .before .args in
+    let lows = sums-step binary64 (now (a .low)) (now (a .padded)) (a .from) (l .loop .j) 8 (l .loop .inv .3) (c .tap-eight .ensures .0) in
+    let highs = sums-step binary64 (now (a .high)) (now (a .padded)) (a .from) (l .loop .j) 8 (l .loop .inv .4) (c .tap-eight .ensures .1) in
+    (search needs, ap length lows ∙ length-tab _ 8, ap length highs ∙ length-tab _ 8, lows, highs)
 
 returns : tie.Need-returns Inv-loop μ-loop
-returns c = let l = c .before in let a = l .before .before .before .before .args in
-    pairs-end binary64 (now (a .low)) (now (a .high)) (now (a .padded)) (a .from) (l .loop .j) (a .f) 8 (l .loop .inv .1) (search needs) (search needs)
+returns c = let l = c .before in let a = l .before .before .before .before .args in (
+  sums-end binary64 (now (a .low)) (now (a .padded)) (a .from) (l .loop .j) (a .f) 8 (l .loop .inv .3) (search needs) (search needs),
+  sums-end binary64 (now (a .high)) (now (a .padded)) (a .from) (l .loop .j) (a .f) 8 (l .loop .inv .4) (search needs) (search needs),
+)
 
 pub eight-spec : {M : Type 1} → statement M
 eight-spec =
