@@ -80,6 +80,7 @@ def write(bench, name, of, figure):
 def count(bench):
     write(bench, 'counts.txt', cases.CASES, bench.call)
     write(bench, 'longest.txt', cases.LONGEST, bench.call)
+    write(bench, 'refused.txt', cases.REFUSED, bench.call)
 
 
 def time(bench):

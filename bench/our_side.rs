@@ -20,6 +20,14 @@ unsafe extern "C" {
         hl: *const f64, hls: usize, hh: *const f64, hhs: usize, width: usize, height: usize, plane: *mut f64, planes: usize,
         scratch: *mut f64, scratches: usize, carried: *mut usize,
     ) -> u64;
+    fn isferghul_analyse_directly(
+        border: usize, low: *const f64, lows: usize, high: *const f64, highs: usize, line: *const f64, samples: usize,
+        approx: *mut f64, approxes: usize, detail: *mut f64, details: usize, carried: *mut usize,
+    ) -> u64;
+    fn isferghul_synthesise_directly(
+        low: *const f64, lows: usize, high: *const f64, highs: usize, approx: *const f64, approxes: usize,
+        detail: *const f64, details: usize, out: *mut f64, outs: usize, carried: *mut usize,
+    ) -> u64;
     fn banked_analyse(
         twice: bool, border: usize, low: *const f64, lows: usize, high: *const f64, highs: usize, line: *const f64, samples: usize,
         approx: *mut f64, approxes: usize, detail: *mut f64, details: usize, scratch: *mut f64, scratches: usize,
@@ -32,6 +40,11 @@ unsafe extern "C" {
 
 fn done(answer: u64) {
     assert!(answer == 0, "this library answers {answer}");
+}
+
+/// A line shorter than the taps.
+fn refused(answer: u64) {
+    assert!(answer == 1, "this library answers {answer}");
 }
 
 /// A bank is made for one call or for two.
@@ -75,9 +88,10 @@ impl<T: Float> Lent<T> {
 }
 
 macro_rules! calls {
-    ($export:ident($($argument:expr),*)) => {{
+    ($export:ident($($argument:expr),*)) => { calls!(done, $export($($argument),*)) };
+    ($answered:ident, $export:ident($($argument:expr),*)) => {{
         let mut carried = [0usize; 2];
-        repeated(Box::new(move || done(unsafe { $export($($argument),*, carried.as_mut_ptr()) })))
+        repeated(Box::new(move || $answered(unsafe { $export($($argument),*, carried.as_mut_ptr()) })))
     }};
 }
 
@@ -130,7 +144,7 @@ macro_rules! lines {
 lines!(f64: isferghul_analyse, isferghul_synthesise, isferghul_convolve, wide);
 lines!(f32: isferghul_analyse_f32, isferghul_synthesise_f32, isferghul_convolve_f32, narrow);
 
-/// By bank, over levels and of planes.
+/// By bank, without a padded line, over levels and of planes.
 fn wide(case: Case, lent: Lent<f64>) -> Calls<'static> {
     let Case { op, border, f, n, .. } = case;
     let Lent { low, high, line: (line, samples), bands: ([a, b, c, d], m), .. } = lent;
@@ -138,6 +152,10 @@ fn wide(case: Case, lent: Lent<f64>) -> Calls<'static> {
     match op {
         Op::AnalysisByBank => calls_by_bank!(banked_analyse(border, low, f, high, f, line, samples, a, m, b, m, scratch, scratches)),
         Op::SynthesisByBank => calls_by_bank!(banked_synthesise(border, low, f, high, f, a, m, b, m, out, outs)),
+        Op::AnalysisDirect => calls!(isferghul_analyse_directly(border, low, f, high, f, line, samples, a, m, b, m)),
+        Op::SynthesisDirect => calls!(isferghul_synthesise_directly(low, f, high, f, a, m, b, m, out, outs)),
+        Op::Refused => calls!(refused, isferghul_analyse(border, low, f, high, f, line, samples, a, m, b, m, scratch, scratches)),
+        Op::RefusedDirect => calls!(refused, isferghul_analyse_directly(border, low, f, high, f, line, samples, a, m, b, m)),
         Op::Levels => calls!(isferghul_analyse_levels(border, low, f, high, f, line, samples, LEVELS, packed, packeds, scratch, scratches)),
         Op::Restoring => calls!(isferghul_restore_levels(low, f, high, f, packed, packeds, n, LEVELS, out, outs, second, seconds)),
         Op::PlaneAnalysis => calls!(isferghul_analyse_plane(border, low, f, high, f, line, samples, n, n, a, m, b, m, c, m, d, m, scratch, scratches)),

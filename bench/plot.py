@@ -7,7 +7,7 @@ import sys
 import cases
 import figures
 
-WIDTH, LEFT, TOP, HIGH, GAP = 916, 256, 136, 18, 12
+WIDTH, LEFT, TOP, HIGH, GAP = 932, 272, 136, 18, 12
 FROM, TO, ACROSS = 0.1, 1.2, 484
 RATIOS = LEFT + ACROSS + 60
 GROWTHS = RATIOS + 90

@@ -56,14 +56,15 @@ pub fn call<'a, T: Float + Made>(case: Case, w: &'a mut Work<T>, returned: &'a m
     let (low, line, packed) = (&w.low[..], &w.line[..], &w.packed[..]);
     let (bands, out, scratch) = (&mut w.bands[..], &mut w.out[..], &mut w.scratch[..]);
     match case.op {
-        Op::Analysis | Op::AnalysisByBank => {
+        Op::Analysis | Op::AnalysisByBank | Op::AnalysisDirect => {
             let [approx, detail] = bands else { unreachable!() };
             Box::new(move || bank.execute_forward_with_scratch(line, approx, detail, scratch).expect(DONE))
         }
-        Op::Synthesis | Op::SynthesisByBank => {
+        Op::Synthesis | Op::SynthesisByBank | Op::SynthesisDirect => {
             let [approx, detail] = bands else { unreachable!() };
             Box::new(move || bank.execute_inverse(approx, detail, out).expect(DONE))
         }
+        Op::Refused | Op::RefusedDirect => panic!("what the Rust does to refuse is not asked"),
         Op::Convolution => {
             let convolve = T::convolution(border);
             Box::new(move || convolve(line, out, scratch, low, 0).expect(DONE))

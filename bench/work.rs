@@ -4,8 +4,14 @@
 pub enum Op {
     Analysis,
     AnalysisByBank,
+    /// By the engine that pads no line.
+    AnalysisDirect,
     Synthesis,
     SynthesisByBank,
+    SynthesisDirect,
+    /// An analysis of a line that is shorter than the taps.
+    Refused,
+    RefusedDirect,
     Convolution,
     /// A convolution with the longest pad on one side, and none on the other.
     LongestLeft,
@@ -17,11 +23,15 @@ pub enum Op {
 }
 
 /// The names that measure.py uses.
-pub const OPS: [(&str, Op); 11] = [
+pub const OPS: [(&str, Op); 15] = [
     ("analysis", Op::Analysis),
     ("analysis-by-bank", Op::AnalysisByBank),
+    ("analysis-direct", Op::AnalysisDirect),
     ("synthesis", Op::Synthesis),
     ("synthesis-by-bank", Op::SynthesisByBank),
+    ("synthesis-direct", Op::SynthesisDirect),
+    ("refused", Op::Refused),
+    ("refused-direct", Op::RefusedDirect),
     ("convolution", Op::Convolution),
     ("longest-left", Op::LongestLeft),
     ("longest-right", Op::LongestRight),
@@ -167,8 +177,8 @@ impl<T: Float> Work<T> {
         let m = half(n, f);
         let mut list = |count| numbers.list(count);
         match op {
-            Op::Analysis | Op::AnalysisByBank => (w.line, w.bands, w.scratch) = (list(n), vec![held(m); 2], held(padded(n, f))),
-            Op::Synthesis | Op::SynthesisByBank => (w.bands, w.out) = (vec![list(m), list(m)], held(n)),
+            Op::Analysis | Op::AnalysisByBank | Op::AnalysisDirect | Op::Refused | Op::RefusedDirect => (w.line, w.bands, w.scratch) = (list(n), vec![held(m); 2], held(padded(n, f))),
+            Op::Synthesis | Op::SynthesisByBank | Op::SynthesisDirect => (w.bands, w.out) = (vec![list(m), list(m)], held(n)),
             Op::Convolution | Op::LongestRight => (w.line, w.out, w.scratch) = (list(n), held(n), held(n + f)),
             Op::LongestLeft => (w.line, w.out, w.scratch) = (list(n), held(n), held(n + f / 2 - 1 + FARTHEST as usize)),
             Op::Levels => (w.line, w.packed, w.scratch) = (list(n), held(packed(n, f)), held(padded(n, f) + 2 * m)),
@@ -182,7 +192,7 @@ impl<T: Float> Work<T> {
     /// All that the case's caller is given, as bits.
     pub fn given(self, op: Op) -> Vec<u64> {
         let given = match op {
-            Op::Analysis | Op::AnalysisByBank | Op::PlaneAnalysis => self.bands.concat(),
+            Op::Analysis | Op::AnalysisByBank | Op::AnalysisDirect | Op::Refused | Op::RefusedDirect | Op::PlaneAnalysis => self.bands.concat(),
             Op::Levels => self.packed,
             _ => self.out,
         };

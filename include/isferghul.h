@@ -73,6 +73,15 @@ uint64_t isferghul_synthesise(const double *low, size_t lows, const double *high
                               const double *approx, size_t approxes, const double *detail, size_t details,
                               double *out, size_t outs, size_t carried[2]);
 
+/* The same by a second engine, which is written from the rules alone and shares no loop with the first: it builds no padded line and needs no scratch. Wherever
+   both are done every number is the same, bit for bit, one NaN as any other; compare the two where no mistake is to go unseen. Refuses as above, never by 5. */
+uint64_t isferghul_analyse_directly(size_t border, const double *low, size_t lows, const double *high, size_t highs,
+                                    const double *line, size_t samples, double *approx, size_t approxes, double *detail, size_t details,
+                                    size_t carried[2]);
+uint64_t isferghul_synthesise_directly(const double *low, size_t lows, const double *high, size_t highs,
+                                       const double *approx, size_t approxes, const double *detail, size_t details,
+                                       double *out, size_t places, size_t carried[2]);
+
 /* A line with a kernel about its centre; an empty kernel copies and leaves the scratch alone. Else the scratch then begins
    with the padded line and is as it was beyond it. Refuses by 26, 11, 6, 7, 5, 8, 13. */
 uint64_t isferghul_convolve(size_t border, const double *line, size_t samples, double *out, size_t outs, double *scratch, size_t scratches,

@@ -147,7 +147,18 @@ static uint64_t call_narrow(uint64_t op, const uint64_t *s, const struct list *l
     }
 }
 
+/* Without a padded line. */
+static uint64_t call_direct(uint64_t op, const uint64_t *s, const struct list *l, size_t carried[2]) {
+    switch (op) {
+    case ANALYSE_DIRECTLY: return isferghul_analyse_directly(s[0], l[0].seen, l[0].count, l[1].seen, l[1].count, l[2].seen, l[2].count,
+                                              l[3].seen, l[3].count, l[4].seen, l[4].count, carried);
+    default: return isferghul_synthesise_directly(l[0].seen, l[0].count, l[1].seen, l[1].count, l[2].seen, l[2].count,
+                                                 l[3].seen, l[3].count, l[4].seen, l[4].count, carried);
+    }
+}
+
 static uint64_t call(uint64_t op, const uint64_t *s, const struct list *l, size_t carried[2]) {
+    if (op >= ANALYSE_DIRECTLY) return call_direct(op, s, l, carried);
     if (op >= ANALYSE_F32) return call_narrow(op, s, l, carried);
     switch (op) {
     case ANALYSE: return isferghul_analyse(s[0], l[0].seen, l[0].count, l[1].seen, l[1].count, l[2].seen, l[2].count,

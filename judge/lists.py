@@ -8,6 +8,7 @@ import sys
 
 sys.dont_write_bytecode = True
 import asked
+import asked_direct
 import asked_levels
 import asked_narrow
 import asked_pairs
@@ -38,7 +39,8 @@ def of_rules():
                   asked_planes.comparings,
                   asked_pairs.lengths, asked_pairs.there_and_back, asked_pairs.premises_fail, asked_pairs.levels, asked_pairs.planes, asked_pairs.refusals,
                   asked_narrow.lists_of_taps, asked_narrow.borders, asked_narrow.lines, asked_narrow.kernels, asked_narrow.roundings, asked_narrow.halfway, asked_narrow.specials,
-                  asked_narrow.refusals, asked_narrow.there_and_back, asked_narrow.pairs):
+                  asked_narrow.refusals, asked_narrow.there_and_back, asked_narrow.pairs,
+                  asked_direct.lines, asked_direct.ends, asked_direct.roundings, asked_direct.specials, asked_direct.refusals, asked_direct.partings):
         theme()
     return asked.ASKED
 
@@ -57,7 +59,7 @@ def few(questions):
 def lists():
     questions = of_rules()
     return {
-        DATA / 'rules': ["# Calls and the answers of docs/RULES.md to them, computed by judge/rules.py and judge/sums.py; judge/asked.py and the four beside it ask.", *protocol.FORM, *answered(questions)],
+        DATA / 'rules': ["# Calls and the answers of docs/RULES.md to them, computed by judge/rules.py and judge/sums.py; judge/asked.py and the five beside it ask.", *protocol.FORM, *answered(questions)],
         DATA / 'examples': ["# P1 to P13 of docs/RULES.md, made by judge/examples.py of the list that is proved in crates/worked/specs/Examples.antt.", *protocol.FORM, *answered(examples.questions())],
         ROOT / 'crates/example/stdout': shown.lines(),
         SMALL: ["# P1 to P13 of docs/RULES.md, and a few of the questions that crates/replay/data/rules has of each operation.", *protocol.FORM, *answered(examples.questions()), *answered(few(questions))]}

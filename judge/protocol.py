@@ -76,10 +76,17 @@ SHAPES = {
 WIDER = {42: 1, 43: 2, 44: 3, 45: 8, 46: 36, 47: 39}
 SHAPES.update({op: SHAPES[wide]._replace(name=SHAPES[wide].name + '_f32', width=NARROW) for op, wide in WIDER.items()})
 NARROWER = {wide: op for op, wide in WIDER.items()}
+# The second engine, which pads no line and takes no scratch; and, of the lists alone, where two pairs of bands part and that engine's tests on lengths.
+SHAPES.update({
+    48: Shape('analyse_directly', ('border',), ('low', 'high', 'line', 'approx', 'detail'), (3, 4)),
+    49: SHAPES[2]._replace(name='synthesise_directly'),
+    50: Shape('parting', (), ('approx', 'detail', 'approx2', 'detail2'), ()),
+    51: Shape('direct_answer', ('f', 'n', 'approx', 'detail'), (), ()),
+})
 globals().update({shape.name.upper(): op for op, shape in SHAPES.items()})
 PLANE_SIZES = tuple(op for op, shape in SHAPES.items() if shape.name.startswith('plane_') and shape.scalars == ('width', 'height', 'f'))
 # what the judge's two sides know
-JUDGED = (*range(ANALYSE, LARGE_PLANE + 1), *range(ANALYSE_F32, MIRROR_F32 + 1))
+JUDGED = (*range(ANALYSE, LARGE_PLANE + 1), *range(ANALYSE_F32, MIRROR_F32 + 1), ANALYSE_DIRECTLY, SYNTHESISE_DIRECTLY)
 
 if sys.byteorder != 'little' or array.array('Q').itemsize != 8:
     sys.exit('protocol.py: this machine is not little-endian with words of 64 bits')

@@ -1,11 +1,14 @@
 """The tests of docs/RULES.md, written out apart from the library: which number answers a case and what it carries, and how far a done call may write its buffers.
 
-An answer is a tuple, the number first. Two numbers are the C interface's own: NO_BORDER, tested before everything else, and DIFFER, told where two bands that passed every test differ."""
-from protocol import (ANALYSE, ANALYSE_LEVELS, ANALYSE_PLANE, ANALYSIS_ANSWER, ANALYSIS_SCRATCH, BACK_ANSWER, BACK_BY_PAIRS, BAND_LENGTH, BORDERS, COMPARE_BANDS,
-                      COMPARING_ANSWER, CONVOLUTION_ANSWER, CONVOLUTION_SCRATCH, CONVOLVE, HANDING_ANSWER, LARGE_PLANE, LEVEL_DETAILS, LEVEL_PART, LEVELS_ANSWER, LEVELS_SCRATCH,
-                      LINE_LENGTH, MIRROR, MOST_LEVELS, one_nan, PACKED_LENGTH, PLANE_ANALYSIS_ANSWER, PLANE_BAND_HEIGHT, PLANE_BAND_LENGTH, PLANE_BAND_WIDTH,
+An answer is a tuple, the number first. Two numbers are the C interface's own: NO_BORDER, tested before everything else, and DIFFER, told where two bands that passed every test differ,
+and where bands part."""
+import itertools
+
+from protocol import (ANALYSE, ANALYSE_DIRECTLY, ANALYSE_LEVELS, ANALYSE_PLANE, ANALYSIS_ANSWER, ANALYSIS_SCRATCH, BACK_ANSWER, BACK_BY_PAIRS, BAND_LENGTH, BORDERS, COMPARE_BANDS,
+                      COMPARING_ANSWER, CONVOLUTION_ANSWER, CONVOLUTION_SCRATCH, CONVOLVE, DIRECT_ANSWER, HANDING_ANSWER, LARGE_PLANE, LEVEL_DETAILS, LEVEL_PART, LEVELS_ANSWER, LEVELS_SCRATCH,
+                      LINE_LENGTH, MIRROR, MOST_LEVELS, one_nan, PACKED_LENGTH, PARTING, PLANE_ANALYSIS_ANSWER, PLANE_BAND_HEIGHT, PLANE_BAND_LENGTH, PLANE_BAND_WIDTH,
                       PLANE_BY_PAIRS, PLANE_SCRATCH, PLANE_SYNTHESIS_ANSWER, READ_PLACE, RESTORE_LEVELS, RESTORED_BY_PAIRS, RESTORED_LINE, RESTORING_ANSWER,
-                      RESTORING_LENGTH, SYNTHESISE, SYNTHESISE_PLANE, SYNTHESIS_ANSWER, THERE_AND_BACK, TWO_PAIRS)
+                      RESTORING_LENGTH, SYNTHESISE, SYNTHESISE_DIRECTLY, SYNTHESISE_PLANE, SYNTHESIS_ANSWER, THERE_AND_BACK, TWO_PAIRS)
 
 LIMIT = 1048576
 MOST_OF_PLANE = 16777216
@@ -73,6 +76,11 @@ def synthesise(f, highs, approxes, details, outs):
     if outs != joined_length(approxes, f):
         return 4, outs, joined_length(approxes, f)
     return 0,
+
+
+def analyse_directly(border, f, highs, n, approxes, details):
+    """The same tests but the last: there is no scratch."""
+    return analyse(border, f, highs, n, approxes, details, padded_length(n, f))
 
 
 def convolve(border, centre, n, outs, scratches, f):
@@ -348,6 +356,19 @@ def compare_bands(width, height, first, second):
     return 0,
 
 
+def part_at(x, y):
+    """The first place where the bits differ, every NaN being one, or that only one list has; None where there is none."""
+    same = itertools.takewhile(lambda pair: None not in pair and one_nan(pair[0]) == one_nan(pair[1]), itertools.zip_longest(x, y))
+    place = sum(1 for _ in same)
+    return place if place < max(len(x), len(y)) else None
+
+
+def parting(approx, detail, approx2, detail2):
+    """Told the bands themselves: 0 and the place where the approximations part, else 1 and the place where the details do."""
+    places = enumerate(part_at(x, y) for x, y in ((approx, approx2), (detail, detail2)))
+    return next(((DIFFER, which, place) for which, place in places if place is not None), (0,))
+
+
 # --- tests on lengths alone, and entries that are not for C
 
 def back_answer(f, n, approxes, details, scratches, outs):
@@ -373,6 +394,8 @@ def alike(f, *others):
 TESTS = {
     ANALYSE: analyse,
     SYNTHESISE: synthesise,
+    ANALYSE_DIRECTLY: analyse_directly,
+    SYNTHESISE_DIRECTLY: synthesise,
     CONVOLVE: convolve,
     BAND_LENGTH: lambda n, f: length_told(n, f, band),
     LINE_LENGTH: line_length,
@@ -396,6 +419,7 @@ TESTS = {
     TWO_PAIRS: two_pairs,
     LARGE_PLANE: large_plane,
     ANALYSIS_ANSWER: lambda f, n, approxes, details, scratches: analyse(0, f, f, n, approxes, details, scratches),
+    DIRECT_ANSWER: lambda f, n, approxes, details: analyse_directly(0, f, f, n, approxes, details),
     SYNTHESIS_ANSWER: lambda f, approxes, details, outs: synthesise(f, f, approxes, details, outs),
     CONVOLUTION_ANSWER: lambda border, n, outs, f, centre, scratches: convolve(border, centre, n, outs, scratches, f),
     LEVELS_ANSWER: lambda n, f, levels, packeds, scratches: analyse_levels(0, levels, f, f, n, packeds, scratches),
@@ -418,6 +442,8 @@ def answer(case):
     """The number that the rules give to the case, and what it carries."""
     if case.op == COMPARE_BANDS:
         return compare_bands(*case.scalars, *case.lists)
+    if case.op == PARTING:
+        return parting(*case.lists)
     return TESTS[case.wide](*case.scalars, *case.counts)
 
 

@@ -3,8 +3,8 @@
 Beside judge/rules.py, which has the tests. Buffers go in and out as lists of floats, which round to their own width (judge/widths.py); OPEN is a place that the
 rules leave open."""
 import rules
-from protocol import (ANALYSE, ANALYSE_LEVELS, ANALYSE_PLANE, BACK_BY_PAIRS, BORDERS, CONVOLVE, LEVEL_DETAILS, MIRROR, OPEN, PLANE_BY_PAIRS, READ_PLACE, RESTORE_LEVELS,
-                      RESTORED_BY_PAIRS, RESTORED_LINE, SHAPES, SYNTHESISE, SYNTHESISE_PLANE, THERE_AND_BACK, WIDER)
+from protocol import (ANALYSE, ANALYSE_DIRECTLY, ANALYSE_LEVELS, ANALYSE_PLANE, BACK_BY_PAIRS, BORDERS, CONVOLVE, LEVEL_DETAILS, MIRROR, OPEN, PLANE_BY_PAIRS, READ_PLACE, RESTORE_LEVELS,
+                      RESTORED_BY_PAIRS, RESTORED_LINE, SHAPES, SYNTHESISE, SYNTHESISE_DIRECTLY, SYNTHESISE_PLANE, THERE_AND_BACK, WIDER)
 
 
 def folded(n, top, q):
@@ -85,6 +85,14 @@ def joined_anew(low, high, approx, detail):
 def analyse(border, low, high, line, approx, detail, scratch):
     approx, detail, line = split(border, low, high, line)
     return approx, detail, onto(scratch, line)
+
+
+def analyse_directly(border, low, high, line, approx, detail):
+    return split(border, low, high, line)[:2]
+
+
+def synthesise(low, high, approx, detail, out):
+    return joined(low, high, approx, detail, out),
 
 
 def convolve(border, centre, line, out, scratch, kernel):
@@ -202,7 +210,9 @@ def plane_by_pairs(width, height, low, high, lowback, highback, taps, *buffers):
 
 DONE = {
     ANALYSE: analyse,
-    SYNTHESISE: lambda low, high, approx, detail, out: (joined(low, high, approx, detail, out),),
+    SYNTHESISE: synthesise,
+    ANALYSE_DIRECTLY: analyse_directly,
+    SYNTHESISE_DIRECTLY: synthesise,
     CONVOLVE: convolve,
     MIRROR: lambda low, high: (mirror(low),),
     ANALYSE_LEVELS: analyse_levels,

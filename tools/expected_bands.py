@@ -1,4 +1,4 @@
-"""expected_bands: fails where crates/bands or a case of crates/bands_cases has another stdout than `bands` has to print (RULES, The program), or where the cases' args, data and stdout don't name the same ones.
+"""expected_bands: fails where crates/bands, crates/agree or a case of crates/bands_cases has another stdout than `bands` and `agree` have to print (RULES, The program), or where the cases' args, data and stdout don't name the same ones.
 
     python3 tools/expected_bands.py
 
@@ -44,26 +44,44 @@ def answer(text):
     if len(line) < len(low): return ['refused 1']
     return shown('approx', band(border, low, line)) + shown('detail', band(border, high, line))
 
+# what `agree` prints: two engines that keep their promises give the same bands, so only a refusal is another line
+def agreement(text):
+    lines = answer(text)
+    return lines if lines[0].startswith('refused') else ['same']
+
 CRATES = os.path.join(os.path.dirname(os.path.abspath(__file__)), '..', 'crates')
 
 def read(*path):
     with open(os.path.join(CRATES, *path), 'rb') as file: return file.read()
 
-def due(*path): return '\n'.join(answer(read(*path))) + '\n'
+def due(said, *path): return ''.join(line + '\n' for line in said(read(*path)))
 
-# below the cases, two outputs that take nothing
-untaken = ['closed', '/dev/full']
-names = read('bands_cases', 'args').decode().splitlines() + untaken
+# below its name a case has what both print of it
+def both(text): return answer(text) + agreement(text)
+
+# what `agree` would print of two pairs of bands: the first place where the approximations part, else that of the details
+def parted(first, second):
+    for name, x, y in zip(('approx', 'detail'), first, second):
+        for place, (a, b) in enumerate(zip(x, y)):
+            if a != b: return ['%s %d' % (name, place)]
+    return ['same']
+
+# below the cases, two outputs that take nothing, and bands of three numbers that part from 1 2 3 and 4 5 6, which no text has
+untaken, bands = ['closed', '/dev/full'], ([1, 2, 3], [4, 5, 6])
+others = ([1, 2, -3], [-4, 5, 6]), ([1, 2, 3], [4, -5, -6]), bands
+names = read('bands_cases', 'args').decode().splitlines() + untaken + ['parted']
 stdout = read('bands_cases', 'stdout').decode('latin-1')
-wanted = {name: due('bands_cases', 'data', name) for name in os.listdir(os.path.join(CRATES, 'bands_cases', 'data'))} | dict.fromkeys(untaken, 'not taken\n')
+wanted = {name: due(both, 'bands_cases', 'data', name) for name in os.listdir(os.path.join(CRATES, 'bands_cases', 'data'))} | dict.fromkeys(untaken, 'not taken\n')
+wanted['parted'] = ''.join(line + '\n' for other in others for line in parted(bands, other))
 # what stands before the first name, and then each name and what stands below it
 parts = re.split('^(%s)\n' % '|'.join(map(re.escape, names)), stdout, flags=re.M)
 written = dict(zip(parts[1::2], parts[2::2]))
 
 cases = sorted({*names, *wanted})
 wrong = [name for name in cases if name not in names or name not in wanted or written.get(name) != wanted[name]]
-if read('bands', 'stdout').decode('latin-1') != due('bands', 'stdin'): wrong.append('bands')
+programs = {'bands': answer, 'agree': agreement}
+wrong += [name for name, said in programs.items() if read(name, 'stdout').decode('latin-1') != due(said, name, 'stdin')]
 order = parts[:1] + parts[1::2] == [''] + names
 if not order: print('stdout of bands_cases has other names than args, or in another order')
-print('%d cases of bands, %d differ%s' % (len(cases) + 1, len(wrong), ''.join(' ' + name for name in wrong)))
+print('%d cases of bands and agree, %d differ%s' % (len(cases) + len(programs), len(wrong), ''.join(' ' + name for name in wrong)))
 sys.exit(1 if wrong or not order else 0)

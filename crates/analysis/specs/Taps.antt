@@ -16,7 +16,7 @@ use Rattle.analysis.specs.Works.{bandOf}
 use Rattle.bank.specs.Lengths.{pairs, paddedLength}
 
 -- taps and lines that agree at every place in use have one sum
-dot-same : (f : Format) (tap tap′ x y : ℕ → Float) (n : ℕ) → ((j : ℕ) → j < n → tap j ≡ tap′ j) → ((j : ℕ) → j < n → x j ≡ y j)
+pub dot-same : (f : Format) (tap tap′ x y : ℕ → Float) (n : ℕ) → ((j : ℕ) → j < n → tap j ≡ tap′ j) → ((j : ℕ) → j < n → x j ≡ y j)
     → dot f tap x n ≡ dot f tap′ y n
 unfolding dot
 dot-same f tap tap′ x y zero g h = refl

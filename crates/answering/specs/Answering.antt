@@ -1,4 +1,4 @@
--- Laws that the proofs of the work cite: a text has fewer numbers than half its bytes, so the buffers are large enough; and what each way through the tests prints is what the definition says.
+-- Laws of reading: a text has fewer numbers than half its bytes, so the buffer is large enough for them; and what parsing answered asks for what the definition says.
 use mathlib.Core.Path.{_≡_, sym, ap, _∙_, subst}
 use mathlib.Core.Bool.{Bool, true, false, cond}
 use mathlib.Core.Logic.{_⊎_, inl, inr}
@@ -16,16 +16,15 @@ use Rattle.whole.specs.Floats.{floats}
 use Rattle.border.specs.declared.Border.{Border}
 use Rattle.border.specs.declared.Border.the-variants.{Clamp}
 use Rattle.texts.specs.Texts.{newline, digit, digitsOf, numeral, othersText, lineText, nameOf, listsText, Request, Stands}
-use Rattle.texts.specs.Prints.{refusalText}
 use Rattle.parsing.specs.declared.Parsed.{Parsed}
 use Rattle.parsing.specs.declared.Parsed.the-variants as parsed
 use Rattle.parsing.specs.Parses.{numberOf, valuesOf, numbersOf, heldBy, TextParsed}
-use Rattle.parsing.specs.Decides.{Asked}
+use Rattle.parsing.specs.Decides as Decides
 use Rattle.parsing.specs.Parsing.{floats-all}
 use Rattle.parsing.specs.Unique.{decide}
-use Rattle.printing.specs.declared.Printing.{Printing}
-use Rattle.printing.specs.Printings.{Printed}
-use Rattle.answering.specs.Answers.{mostNumbers, answerText, outputOf, requestText, TextAnswered}
+use Rattle.answering.specs.declared.asking.Asked.{Asked}
+use Rattle.answering.specs.Answers.{mostNumbers}
+use Rattle.answering.specs.Asks.{lineIn, ListsAsked, TextAsked}
 
 -- ---- how many numbers a text has
 some-digit : (k n : ℕ) → 1 ≤ length (digitsOf (suc k) n)
@@ -61,6 +60,13 @@ few q t s =
     let n = length-line (q .samples) in
     omega (arith, s .size)
 
+pub few-samples : (q : Request) (t : List ℕ) → Stands q t → length (floats binary64 (q .samples)) ≤ mostNumbers
+few-samples q t s =
+    let all = few q t s in
+    let c = length-append (q .low) (q .high ++ q .samples) in
+    let d = length-append (q .high) (q .samples) in
+    omega (arith, length-map (q .samples) (ofInt binary64))
+
 -- ---- lists one behind another
 in-parts : (a b c rest : List Float) (l h s : ℕ) → length a ≡ l → length b ≡ h → length c ≡ s → {n : List Float} → n ≡ a ++ (b ++ (c ++ rest))
     → (take l n ≡ a) × (take (l + h - l) (drop l n) ≡ b) × (take (l + h + s - (l + h)) (drop (l + h) n) ≡ c)
@@ -72,9 +78,13 @@ in-parts a b c rest l h s e f g {n} p =
       ap (take (l + h + s - (l + h))) two ∙ take-at c rest (l + h + s - (l + h)) (omega (arith, g)),
     )
 
-answer-same : {b b′ : Border} {low low′ high high′ line line′ : List Float} → b ≡ b′ → low ≡ low′ → high ≡ high′ → line ≡ line′ → answerText b low high line ≡ answerText b′ low′ high′ line′
-answer-same {b} {b′} {low} {low′} {high} {high′} {line} {line′} e f g h =
-    ap (λ (x : Border). answerText x low high line) e ∙ ap (λ (x : List Float). answerText b′ x high line) f ∙ ap (λ (x : List Float). answerText b′ low′ x line) g ∙ ap (λ (x : List Float). answerText b′ low′ high′ x) h
+-- the same lists and count by other names
+asked-same : {b b′ : Border} {low low′ high high′ : List Float} {n n′ : ℕ} {a : Asked} → b ≡ b′ → low ≡ low′ → high ≡ high′ → n ≡ n′ → ListsAsked b low high n a → ListsAsked b′ low′ high′ n′ a
+asked-same {b} {b′} {low} {low′} {high} {high′} {n} {n′} {a} e f g h w =
+    subst (λ (x : ℕ). ListsAsked b′ low′ high′ x a) h
+    (subst (λ (x : List Float). ListsAsked b′ low′ x n a) g
+    (subst (λ (x : List Float). ListsAsked b′ x high n a) f
+    (subst (λ (x : Border). ListsAsked x low high n a) e w)))
 
 -- ---- what parsing answered
 abbrev borderIn : Parsed → Border
@@ -91,18 +101,21 @@ module _ (text : List ℕ) (numbers : List Float) (r : Parsed) (numbers′ : Lis
   taken : (q : Request) → Stands q text → r ≡ parsed.Request (q .border) (length (q .low)) (length (q .high)) (length (q .samples))
   taken q s = p .answer q s ∙ cond-false (ltb (length numbers) (length (numbersOf q))) _ _ (le-ltb (length numbers) (length (numbersOf q)) (omega (arith, few q text s)))
 
-  pub never : {need have : ℕ} {out : List ℕ} {print : Printing} {out′ : List ℕ} → r ≡ parsed.InputSize need have → TextAnswered text out print out′
-  never {need} {have} e = absurd (go (decide text))
+  pub never : {need have : ℕ} → r ≡ parsed.InputSize need have → ⊥
+  never {need} {have} e = go (decide text)
     where
-      go : Asked text ⊎ ((k : Request) → Stands k text → ⊥) → ⊥
+      go : Decides.Asked text ⊎ ((k : Request) → Stands k text → ⊥) → ⊥
       go (inl a) = let n = ap numberOf (sym e ∙ taken (a .request) (a .stands)) in absurd (omega (arith, n))
       go (inr f) = let n = ap numberOf (sym e ∙ p .unreadable f) in absurd (omega (arith, n))
 
-  pub refused-14 : {out : List ℕ} {print : Printing} {out′ : List ℕ} → r ≡ parsed.Unreadable → Printed false (refusalText 14) out print out′ → TextAnswered text out print out′
-  refused-14 e q = record {
-    request = λ k s. absurd (let n = ap numberOf (sym e ∙ taken k s) in omega (arith, n));
-    unreadable = λ f. q;
-  }
+  pub refused-14 : {x : List Float} {a : Asked} → r ≡ parsed.Unreadable → a .number ≡ 14 → TextAsked text x a
+  refused-14 {x} {a} e h =
+      let none : (k : Request) → Stands k text → ⊥ = λ k s. let n = ap numberOf (sym e ∙ taken k s) in absurd (omega (arith, n)) in
+      record {
+        request = λ k s. absurd (none k s);
+        placed = λ k s. absurd (none k s);
+        unreadable = λ f. h;
+      }
 
   -- ---- the fields of a request that was answered
   module _ {b : Border} {l h s : ℕ} (e : r ≡ parsed.Request b l h s) where
@@ -125,14 +138,14 @@ module _ (text : List ℕ) (numbers : List Float) (r : Parsed) (numbers′ : Lis
         }
 
     -- the text stands for some request
-    pub asked : Asked text
+    asked : Decides.Asked text
     asked = go (decide text)
       where
-        go : Asked text ⊎ ((k : Request) → Stands k text → ⊥) → Asked text
+        go : Decides.Asked text ⊎ ((k : Request) → Stands k text → ⊥) → Decides.Asked text
         go (inl a) = a
         go (inr f) = absurd (let n = ap numberOf (sym e ∙ p .unreadable f) in omega (arith, n))
 
-    pub sized : (l + h + s ≤ length numbers′) × (s ≤ mostNumbers)
+    pub sized : l + h + s ≤ length numbers′
     sized =
         let q = asked .request in
         let f = fields q (asked .stands) in
@@ -145,20 +158,28 @@ module _ (text : List ℕ) (numbers : List Float) (r : Parsed) (numbers′ : Lis
         let m = length-map (numbersOf q) (ofInt binary64) in
         let k = length-append (floats binary64 (numbersOf q)) (drop (length (floats binary64 (numbersOf q))) numbers) in
         let w = ap length (f .held) in
-        (omega arith, omega arith)
+        omega arith
 
-    same-lists : (q : Request) → Stands q text → requestText b l h s numbers′ ≡ outputOf q
-    same-lists q k =
+    -- the three lists of a request, where parsing put them
+    lists-of : (q : Request) → Stands q text
+        → (take l numbers′ ≡ floats binary64 (q .low)) × (lineIn l (l + h) numbers′ ≡ floats binary64 (q .high)) × (lineIn (l + h) (l + h + s) numbers′ ≡ floats binary64 (q .samples))
+    lists-of q k =
         let f = fields q k in
         let F = floats binary64 in
         let rest = drop (length (F (numbersOf q))) numbers in
         let parts : numbers′ ≡ F (q .low) ++ (F (q .high) ++ (F (q .samples) ++ rest)) =
         f .held ∙ ap (λ (x : List Float). x ++ rest) (sym (floats-all q)) ∙ append-assoc (F (q .low)) (F (q .high) ++ F (q .samples)) rest ∙ ap (λ (x : List Float). F (q .low) ++ x) (append-assoc (F (q .high)) (F (q .samples)) rest) in
-        let d = in-parts (F (q .low)) (F (q .high)) (F (q .samples)) rest l h s (length-map (q .low) _ ∙ sym (f .lows)) (length-map (q .high) _ ∙ sym (f .highs)) (length-map (q .samples) _ ∙ sym (f .all)) parts in
-        answer-same (f .border) (d .0) (d .1) (d .2)
+        in-parts (F (q .low)) (F (q .high)) (F (q .samples)) rest l h s (length-map (q .low) _ ∙ sym (f .lows)) (length-map (q .high) _ ∙ sym (f .highs)) (length-map (q .samples) _ ∙ sym (f .all)) parts
 
-    pub answered : {out : List ℕ} {print : Printing} {out′ : List ℕ} → Printed false (requestText b l h s numbers′) out print out′ → TextAnswered text out print out′
-    answered {out} {print} {out′} w = record {
-      request = λ q k. subst (λ (t : List ℕ). Printed false t out print out′) (same-lists q k) w;
+    pub answered : {a : Asked} → a .from ≡ l + h → a .end ≡ l + h + s → ListsAsked b (take l numbers′) (lineIn l (l + h) numbers′) (l + h + s - (l + h)) a → TextAsked text numbers′ a
+    answered {a} from end w = record {
+      request = λ q k.
+          let d = lists-of q k in
+          asked-same (fields q k .border) (d .0) (d .1) (omega (arith, fields q k .all, length-map (q .samples) (ofInt binary64))) w;
+      placed = λ q k. record {
+        starts = omega (arith, from, end);
+        ends = omega (arith, end, sized);
+        same = ap (λ (x : ℕ). lineIn x (a .end) numbers′) from ∙ ap (λ (x : ℕ). lineIn (l + h) x numbers′) end ∙ lists-of q k .2;
+      };
       unreadable = λ f. absurd (f (asked .request) (asked .stands));
     }

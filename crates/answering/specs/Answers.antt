@@ -1,9 +1,9 @@
--- What `bands` prints for what it reads: the bands of a request, or the number of the first test that fails. Definitions only.
+-- What a program prints for what it reads: what it says of the bands of a request, or the number of the first test that fails; `bands` says the bands themselves. Definitions only.
 use mathlib.Core.Path.{_≡_}
 use mathlib.Core.Bool.{false}
 use mathlib.Core.List.{List}
-use Prim.Native.Nat.{ℕ, _+_, _-_, _*_, _/_, _≤_}
-use lib.ListN.{length, take, drop}
+use Prim.Native.Nat.{ℕ, _*_, _/_, _≤_}
+use lib.ListN.{length}
 use lib.Ieee.{Float, binary64}
 use Rattle.numbers.specs.Words.{whenDone}
 use Rattle.whole.specs.Floats.{floats}
@@ -18,30 +18,51 @@ use Rattle.texts.specs.Prints.{bandsText, refusalText}
 use Rattle.parsing.specs.declared.Parsed.the-variants as parsed
 use Rattle.parsing.specs.Parses as Parses
 use Rattle.printing.specs.declared.Printing.{Printing}
+use Rattle.printing.specs.declared.Printing.the-variants.{Done, InputSize, Limit}
 use Rattle.printing.specs.Printings.{Printed}
 
--- the text of two tap lists and a line: where the lists make no bank its number, where the line has no bands that number, else both bands
+-- the number of the first test that fails, of the lengths of two tap lists and of a line: the lists make no bank, or the line has no bands; 0 where none does
+abbrev pub refusalOf : ℕ → ℕ → ℕ → ℕ
+refusalOf low high n =
+    let making = Banks.numberOf (Banks.answerOf low high) in
+    whenDone making (Sizes.numberOf (Sizes.ofSamples n low (pairs n low))) making
+
+-- ---- of a program that prints `say` of two bands
+module _ (say : List Float → List Float → List ℕ) where
+  -- what is said of a line's bands by the first f of two tap lists
+  abbrev pub bothText : List Float → List Float → ℕ → Border → List Float → List ℕ
+  bothText low high f b line = say (band binary64 low f b line) (band binary64 high f b line)
+
+  -- the text of two tap lists and a line: the number that refuses them, else what is said of the bands
+  abbrev pub saidText : Border → List Float → List Float → List Float → List ℕ
+  saidText b low high line =
+      let number = refusalOf (length low) (length high) (length line) in
+      whenDone number (bothText low high (length low) b line) (refusalText number)
+
+  -- a request's text
+  abbrev pub saidOf : Request → List ℕ
+  saidOf q = saidText (q .border) (floats binary64 (q .low)) (floats binary64 (q .high)) (floats binary64 (q .samples))
+
+  -- a text that stands for a request is answered by the request's, and any other by the number of one that is unreadable, 14
+  pub record TextSaid (text out : List ℕ) (r : Printing) (out′ : List ℕ) : Type 0 where
+    pub request : (q : Request) → Stands q text → Printed false (saidOf q) out r out′
+    pub unreadable : ((q : Request) → Stands q text → ⊥) → Printed false (refusalText (Parses.numberOf parsed.Unreadable)) out r out′
+
+  -- what is said of a line's bands by a bank
+  abbrev pub bankText : Bank → List Float → List ℕ
+  bankText bank line = bothText (bank .low) (bank .high) (bank .taps) (bank .border) line
+
+-- ---- `bands`, which prints both bands
 abbrev pub answerText : Border → List Float → List Float → List Float → List ℕ
-answerText b low high line =
-    let making = Banks.numberOf (Banks.answerOf (length low) (length high)) in
-    let sizing = Sizes.numberOf (Sizes.ofSamples (length line) (length low) (pairs (length line) (length low))) in
-    whenDone making
-    (whenDone sizing (bandsText (band binary64 low (length low) b line) (band binary64 high (length low) b line)) (refusalText sizing))
-    (refusalText making)
+answerText b low high line = saidText bandsText b low high line
 
--- a request's text
 abbrev pub outputOf : Request → List ℕ
-outputOf q = answerText (q .border) (floats binary64 (q .low)) (floats binary64 (q .high)) (floats binary64 (q .samples))
+outputOf q = saidOf bandsText q
 
--- a text that stands for a request is answered by the request's, and any other by the number of one that is unreadable, 14
-pub record TextAnswered (text out : List ℕ) (r : Printing) (out′ : List ℕ) : Type 0 where
-  pub request : (q : Request) → Stands q text → Printed false (outputOf q) out r out′
-  pub unreadable : ((q : Request) → Stands q text → ⊥) → Printed false (refusalText (Parses.numberOf parsed.Unreadable)) out r out′
+abbrev pub TextAnswered : List ℕ → List ℕ → Printing → List ℕ → Type 0
+TextAnswered text out r out′ = TextSaid bandsText text out r out′
 
--- both bands of a line by a bank that can analyse it
-abbrev pub bankText : Bank → List Float → List ℕ
-bankText bank line = bandsText (band binary64 (bank .low) (bank .taps) (bank .border) line) (band binary64 (bank .high) (bank .taps) (bank .border) line)
-
+-- ---- room
 -- the most numbers of a text: each has a byte at least, and one behind it
 abbrev pub mostNumbers : ℕ
 mostNumbers = longestText / 2
@@ -57,20 +78,20 @@ mostPadded = paddedLength mostNumbers 64
 abbrev pub roomiest : ℕ
 roomiest = 9 * longestText
 
--- room for the bands of n samples, whatever the taps
-pub record Roomy (n approx detail scratch : ℕ) : Type 0 where
-  pub short : n ≤ mostNumbers
+-- the bytes of a text that was printed
+abbrev pub sizeIn : Printing → ℕ
+sizeIn (Done size) = size
+sizeIn (InputSize need have) = 0
+sizeIn Limit = 0
+
+-- room for the bands of any text, whatever the taps
+pub record Roomy (approx detail scratch : ℕ) : Type 0 where
   pub approxed : mostPairs ≤ approx
   pub detailed : mostPairs ≤ detail
   pub padded : mostPadded ≤ scratch
 
--- n samples that f taps can analyse, into bands of m
-pub record Banded (n f m approx detail scratch : ℕ) : Type 0 where
+-- n samples of a text, which f taps can analyse into bands of m
+pub record Banded (n f m : ℕ) : Type 0 where
   pub ready : Analysable n f
   pub size : m ≡ pairs n f
-  pub room : Roomy n approx detail scratch
-
--- the lists where parsing put them, one behind another
-abbrev pub requestText : Border → ℕ → ℕ → ℕ → List Float → List ℕ
-requestText b low high samples numbers =
-    answerText b (take low numbers) (take (low + high - low) (drop low numbers)) (take (low + high + samples - (low + high)) (drop (low + high) numbers))
+  pub short : n ≤ mostNumbers

@@ -1,4 +1,5 @@
 // The whole of `bands`, from the text that it reads to the text that it prints.
+pub mod asking;
 pub mod work;
 
 ghost use Rattle.answering.specs.Answers.{TextAnswered};

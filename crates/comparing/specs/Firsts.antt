@@ -16,12 +16,12 @@ use Rattle.comparing.specs.Comparings.{differAt, firstOf, foundIn, Agree
 use Rattle.comparing.specs.Tested.{compared, found}
 
 -- ---- the first that passes
-first-none : (passes : ℕ → Bool) (n : ℕ) → ((k : ℕ) → k < n → passes k ≡ false) → firstOf passes n ≡ n
+pub first-none : (passes : ℕ → Bool) (n : ℕ) → ((k : ℕ) → k < n → passes k ≡ false) → firstOf passes n ≡ n
 unfolding firstOf
 first-none passes zero h = refl
 first-none passes (suc n) h = simp (h 0 (omega arith), first-none (λ k. passes (suc k)) n (λ k l. h (suc k) (omega arith)))
 
-first-is : (passes : ℕ → Bool) (n k : ℕ) → k < n → passes k ≡ true → ((j : ℕ) → j < k → passes j ≡ false) → firstOf passes n ≡ k
+pub first-is : (passes : ℕ → Bool) (n k : ℕ) → k < n → passes k ≡ true → ((j : ℕ) → j < k → passes j ≡ false) → firstOf passes n ≡ k
 unfolding firstOf
 first-is passes zero k l t h = absurd (omega arith)
 first-is passes (suc n) zero l t h = simp t
@@ -29,7 +29,7 @@ first-is passes (suc n) (suc k) l t h =
     simp (h 0 (omega arith), first-is (λ j. passes (suc j)) n k (omega arith) t (λ j m. h (suc j) (omega arith)))
 
 -- it passes where there is one, and none before it does
-first-passes : (passes : ℕ → Bool) (n : ℕ) → firstOf passes n < n → passes (firstOf passes n) ≡ true
+pub first-passes : (passes : ℕ → Bool) (n : ℕ) → firstOf passes n < n → passes (firstOf passes n) ≡ true
 unfolding firstOf
 first-passes passes zero l = absurd (omega arith)
 first-passes passes (suc n) l = go (passes 0) refl (firstOf (λ k. passes (suc k)) n) (first-passes (λ k. passes (suc k)) n) l
@@ -38,7 +38,7 @@ first-passes passes (suc n) l = go (passes 0) refl (firstOf (λ k. passes (suc k
     go true e m rest l = e
     go false e m rest l = rest (omega arith)
 
-first-least : (passes : ℕ → Bool) (n j : ℕ) → j < firstOf passes n → passes j ≡ false
+pub first-least : (passes : ℕ → Bool) (n j : ℕ) → j < firstOf passes n → passes j ≡ false
 unfolding firstOf
 first-least passes zero j l = absurd (omega arith)
 first-least passes (suc n) j l = go (passes 0) refl (firstOf (λ k. passes (suc k)) n) (first-least (λ k. passes (suc k)) n) j l

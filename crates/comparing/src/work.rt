@@ -6,7 +6,7 @@ ghost use Rattle.comparing.specs.Comparings.{differs, foundIn};
 use crate::Compared;
 
 // Whether the bits differ; a NaN is a NaN, and the zeros are two.
-fn differ(x: f64, y: f64) -> bool
+pub fn differ(x: f64, y: f64) -> bool
     ensures { λ r. ⌜ r ≡ differs x y ⌝ }
 {
     if x != x {

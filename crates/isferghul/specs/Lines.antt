@@ -10,6 +10,7 @@ use Rattle.bank.specs.declared.making.Making.{Making}
 use Rattle.bank.specs.Banks as Banks
 use Rattle.bank.specs.Banks.{tapsOf}
 use Rattle.analysis.specs.Analyses as Analyses
+use Rattle.direct_analysis.specs.Analyses as Direct
 use Rattle.synthesis.specs.Syntheses as Syntheses
 use Rattle.convolution.specs.Convolutions as Convolutions
 use Rattle.telling.specs.Told.{ToldOf}
@@ -34,6 +35,13 @@ AnalysisTold w border low high line approx detail scratch words r approx′ deta
     ToldUnder border Analyses.numberOf Analyses.valuesOf
     (λ b a. Analyses.Analysed w low high (tapsOf (length low) (length high)) b line approx detail scratch a approx′ detail′ scratch′)
     ((approx′ ≡ approx) × (detail′ ≡ detail) × (scratch′ ≡ scratch)) words r words′
+
+-- by the second engine, which has no scratch
+abbrev pub DirectTold : Format → ℕ → List Float → List Float → List Float → List Float → List Float → List ℕ → ℕ → List Float → List Float → List ℕ → Type 0
+DirectTold w border low high line approx detail words r approx′ detail′ words′ =
+    ToldUnder border Analyses.numberOf Analyses.valuesOf
+    (λ b a. Direct.Analysed w low high (tapsOf (length low) (length high)) b line approx detail a approx′ detail′)
+    ((approx′ ≡ approx) × (detail′ ≡ detail)) words r words′
 
 abbrev pub SynthesisTold : Format → List Float → List Float → List Float → List Float → List Float → List ℕ → ℕ → List Float → List ℕ → Type 0
 SynthesisTold w low high approx detail out words r out′ words′ =

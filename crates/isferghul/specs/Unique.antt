@@ -10,6 +10,7 @@ use Rattle.bank.specs.Banks as Banks
 use Rattle.bank.specs.Banks.{tapsOf}
 use Rattle.bank.specs.Unique.{unique-mirror}
 use Rattle.analysis.specs.Unique.{unique-analyse}
+use Rattle.direct_analysis.specs.Unique.{unique-direct}
 use Rattle.synthesis.specs.Unique.{unique-synthesise}
 use Rattle.convolution.specs.Unique.{unique-convolve}
 use Rattle.levels.specs.Unique.{unique-analyse-levels}
@@ -21,7 +22,7 @@ use Rattle.planes.specs.Lengths.{planeScratch}
 use Rattle.plane_analysis.specs.Unique.{unique-analyse-plane}
 use Rattle.plane_synthesis.specs.Unique.{unique-synthesise-plane}
 use Rattle.telling.specs.Unique.{unique-told-of, unique-told-under}
-use Rattle.isferghul.specs.Lines.{MirrorTold, PairsTold, AnalysisTold, SynthesisTold, ConvolutionTold}
+use Rattle.isferghul.specs.Lines.{MirrorTold, PairsTold, AnalysisTold, DirectTold, SynthesisTold, ConvolutionTold}
 use Rattle.isferghul.specs.Levels.{PlaceTold, LevelsTold, RestoringTold}
 use Rattle.isferghul.specs.Planes.{PlaneAnalysisTold, PlaneSynthesisTold}
 
@@ -42,6 +43,11 @@ unique-analysis-told p q =
     unique-told-under
     (λ b x y e k l. let o = unique-analyse k l in (o .0, (o .1, o .2, o .3)))
     (λ k l. (both (k .0) (l .0), both (k .1) (l .1), both (k .2) (l .2))) p q
+
+pub unique-direct-told : {f : Format} {border : ℕ} {low high line approx detail : List Float} {words : List ℕ} {r r′ : ℕ} {a d a′ d′ : List Float} {w w′ : List ℕ}
+    → DirectTold f border low high line approx detail words r a d w → DirectTold f border low high line approx detail words r′ a′ d′ w′ → (r ≡ r′) × (w ≡ w′) × ((a ≡ a′) × (d ≡ d′))
+unique-direct-told p q =
+    unique-told-under (λ b x y e k l. let o = unique-direct k l in (o .0, (o .1, o .2))) (λ k l. (both (k .0) (l .0), both (k .1) (l .1))) p q
 
 pub unique-synthesis-told : {f : Format} {low high approx detail out : List Float} {words : List ℕ} {r r′ : ℕ} {o o′ : List Float} {w w′ : List ℕ}
     → SynthesisTold f low high approx detail out words r o w → SynthesisTold f low high approx detail out words r′ o′ w′ → (r ≡ r′) × (w ≡ w′) × (o ≡ o′)

@@ -1,5 +1,6 @@
 // The library for C: numbers and slices in, a number back (RULES, Numbers), and what it carries in lent words.
 pub mod depths;
+pub mod direct;
 pub mod lines;
 pub mod lines_f32;
 pub mod packing;

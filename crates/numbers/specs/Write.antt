@@ -107,7 +107,10 @@ module _ {A : Type 0} where
   pub placed-end : (g : ℕ → A) (s i n : ℕ) (x : List A) {l : List A} → l ≡ placed g s i x → i ≤ n → n ≤ i → l ≡ placed g s n x
   placed-end g s i n x e h k = let q : i ≡ n = omega arith in rw (← q) e
 
-  -- one turn of a loop that goes by the places themselves
+  -- a loop that goes by the places themselves: as it begins, one turn, and as it ends
+  pub replaced-start : (g : ℕ → A) (s : ℕ) (x : List A) → x ≡ replaced g s (s - s) x
+  replaced-start g s x = let q : 0 ≡ s - s = omega arith in placed-start (λ k. g (s + k)) s x ∙ ap (λ (n : ℕ). replaced g s n x) q
+
   pub replaced-step : (g : ℕ → A) (s p : ℕ) (x : List A) {l : List A} {v : A} → s ≤ p → p < length x → l ≡ replaced g s (p - s) x → v ≡ g p
       → set l p v ≡ replaced g s (p + 1 - s) x
   replaced-step g s p x {l} {v} h k e q =
@@ -116,6 +119,9 @@ module _ {A : Type 0} where
       ap (λ (j : ℕ). set l j v) (sym t) ∙ placed-step (λ j. g (s + j)) s (p - s) x (omega arith) e (q ∙ ap g (sym t)) ∙ ap (λ (j : ℕ). replaced g s j x) u
 
   -- what lies before and behind stays, and what lies within is g's
+  pub replaced-end : (g : ℕ → A) (s p n : ℕ) (x : List A) {l : List A} → l ≡ replaced g s (p - s) x → p ≤ n → n ≤ p → l ≡ replaced g s (n - s) x
+  replaced-end g s p n x e h k = let q : p ≡ n = omega arith in rw (← q) e
+
   pub take-placed : (g : ℕ → A) (s n : ℕ) (x : List A) → s ≤ length x → take s (placed g s n x) ≡ take s x
   unfolding placed
   take-placed g s n x h = take-at (take s x) (written g n (drop s x)) s (length-take-le s x h)

@@ -8,6 +8,7 @@ use crate::floats::kept;
 use crate::floats::lent;
 use crate::floats::same;
 use crate::on_banks;
+use crate::on_direct;
 use crate::on_levels;
 use crate::on_lines;
 use crate::on_pairs;
@@ -15,8 +16,13 @@ use crate::on_planes;
 use crate::on_sizes;
 use crate::parts::scalar;
 
-// The operations behind this one are on 32-bit floats.
-const LAST_WIDE: usize = 41;
+// Whether an operation is on 32-bit floats.
+fn narrow(op: usize) -> bool {
+    match op {
+        42..=47 => true,
+        _ => false,
+    }
+}
 
 // Which file makes the call: those with lists first.
 fn group(op: usize) -> u8 {
@@ -26,7 +32,8 @@ fn group(op: usize) -> u8 {
         21..=23 => 3,
         36..=38 => 4,
         39..=41 => 5,
-        _ => 6,
+        48..=50 => 6,
+        _ => 7,
     }
 }
 
@@ -37,7 +44,7 @@ pub fn first_lent(op: usize) -> usize
     match op {
         3 | 8 | 16 | 37 | 44 | 45 => 4,
         23 | 39 | 40 | 47 => 6,
-        2 | 43 => 10,
+        2 | 43 | 49 | 50 => 10,
         41 => 12,
         22 => 14,
         _ => 8,
@@ -60,13 +67,14 @@ fn ask(
         3 => on_planes::ask(words, all, p, q, r, s, t, carried),
         4 => on_banks::ask(words, all, p, q, r, s, carried),
         5 => on_pairs::ask(words, all, p, q, r, s, carried),
+        6 => on_direct::ask(words, all, p, q, carried),
         _ => on_sizes::ask(words, carried),
     }
 }
 
 // The call of a line that lends up to five lists, and whether it answers and leaves what the line says.
 pub fn agrees(words: &[u64]) -> bool {
-    if LAST_WIDE < scalar(words, 0) {
+    if narrow(scalar(words, 0)) {
         return asking_f32::agrees(words);
     }
     let first = first_lent(scalar(words, 0));

@@ -8,6 +8,7 @@ mod floats;
 mod floats_f32;
 mod on_banks;
 mod on_banks_f32;
+mod on_direct;
 mod on_lengths;
 mod on_levels;
 mod on_lines;

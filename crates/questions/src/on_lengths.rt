@@ -8,6 +8,7 @@ use analysis::analysis_answer;
 use comparing::comparing_answer;
 use convolution::convolution_answer;
 use convolution::pads::split;
+use direct_analysis::direct_answer;
 use exact::Back;
 use exact::back_answer;
 use level_parts::Handing;
@@ -65,6 +66,7 @@ pub fn ask(words: &[u64], carried: &mut [usize; 2]) -> u64 {
         33 => plane_told(plane_synthesis_answer(a, b, c, d, e, f, g, h, i), carried),
         34 => comparison_told(comparing_answer(a, b, c, d), carried),
         35 => back_told(back_answer(a, b, c, d, e, f), carried),
+        51 => line_telling::told::analysis(direct_answer(a, b, c, d), carried),
         _ => crate::NO_CALL,
     }
 }

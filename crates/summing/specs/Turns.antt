@@ -1,5 +1,5 @@
 -- Laws of a loop over the taps, for one sum and for those of several places: as it begins, one tap more, and as it ends it has the sum.
-use mathlib.Core.Path.{_≡_, sym, ap, _∙_}
+use mathlib.Core.Path.{_≡_, refl, sym, ap, _∙_}
 use mathlib.Core.List.{List, [], _∷_}
 use Prim.Native.Nat.{ℕ, _+_, _*_, _≤_}
 use native.Mathlib.Numerals.{add-one}
@@ -13,18 +13,32 @@ use Rattle.numbers.specs.Tests.{literal-zero}
 use Rattle.summing.specs.Sums.{dot, tapSum}
 use Rattle.summing.specs.Works.{tapped, sumsAt}
 
+module _ (f : Format) (tap x : ℕ → Float) where
+  pub dot-start : ofBits f 0 ≡ dot f tap x 0
+  unfolding dot
+  dot-start = literal-zero f
+
+  pub dot-step : (j : ℕ) {sum v r : Float} → sum ≡ dot f tap x j → v ≡ x j → r ≡ add f sum (mul f (tap j) v) → r ≡ dot f tap x (j + 1)
+  unfolding dot
+  dot-step j {v = v} e q h =
+      h ∙ ap (λ (z : Float). add f z (mul f (tap j) v)) e ∙ ap (λ (u : Float). add f (dot f tap x j) (mul f (tap j) u)) q ∙ sym (ap (dot f tap x) (add-one j))
+
+  pub dot-end : (j n : ℕ) {sum : Float} → sum ≡ dot f tap x j → j ≤ n → n ≤ j → sum ≡ dot f tap x n
+  dot-end j n e h k = let q : j ≡ n = omega arith in rw (← q) e
+
+-- over a line that holds the samples
 module _ (f : Format) (taps line : List Float) (from : ℕ) where
   pub sum-start : ofBits f 0 ≡ tapSum f taps line from 0
   unfolding tapSum
-  sum-start = literal-zero f
+  sum-start = dot-start f (at taps) (λ j. at line (from + j))
 
   pub sum-step : (j : ℕ) {sum r : Float} → sum ≡ tapSum f taps line from j → r ≡ add f sum (mul f (at taps j) (at line (from + j))) → r ≡ tapSum f taps line from (j + 1)
   unfolding tapSum
-  sum-step j {sum} e h =
-      h ∙ ap (λ (z : Float). add f z (mul f (at taps j) (at line (from + j)))) e ∙ sym (ap (tapSum f taps line from) (add-one j))
+  sum-step j e h = dot-step f (at taps) (λ j. at line (from + j)) j e refl h
 
   pub sum-end : (j n : ℕ) {sum : Float} → sum ≡ tapSum f taps line from j → j ≤ n → n ≤ j → sum ≡ tapSum f taps line from n
-  sum-end j n e h k = let q : j ≡ n = omega arith in rw (← q) e
+  unfolding tapSum
+  sum-end j n e h k = dot-end f (at taps) (λ j. at line (from + j)) j n e h k
 
 -- ---- several places
 module _ (f : Format) (taps line : List Float) (from : ℕ) where

@@ -37,7 +37,7 @@ module _ (f : Format) (F : ℕ) (low high a d : List Float) where
   some last k held s = gathered f (at low) (at high) (at a) (at d) last k held s
 
   -- half as many pairs as taps are all that reach a place
-  all-gathered : (n k e : ℕ) (held : Float) → Joinable F (length a) (length d) n → e < 2 → 2 * k + e < n
+  pub all-gathered : (n k e : ℕ) (held : Float) → Joinable F (length a) (length d) n → e < 2 → 2 * k + e < n
       → some (F - 2 + e) k held (F / 2) ≡ joined f F (at low) (at high) (at a) (at d) (2 * k + e + (F - 2)) held (length a)
   all-gathered n k e held j b l =
       let h = F / 2 in
@@ -56,7 +56,7 @@ module _ (f : Format) (F : ℕ) (low high a d : List Float) where
       let none : 0 ≡ k - k = omega arith in
       record { evens = ap (some (F - 2 + 0) k (at old (2 * k))) none; odds = ap (some (F - 2 + 1) k (at old (2 * k + 1))) none }
 
-  one-more : (k e i j t : ℕ) (held : Float) {z : Float} → k ≤ i → 2 * i + j ≡ 2 * k + F → 2 ≤ j → t ≡ j - 2 + e → z ≡ some (F - 2 + e) k held (i - k)
+  pub one-more : (k e i j t : ℕ) (held : Float) {z : Float} → k ≤ i → 2 * i + j ≡ 2 * k + F → 2 ≤ j → t ≡ j - 2 + e → z ≡ some (F - 2 + e) k held (i - k)
       → onto f (at low) (at high) t (at a i) (at d i) z ≡ some (F - 2 + e) k held (i + 1 - k)
   unfolding gathered
   one-more k e i j t held {z} h l b et ez =

@@ -31,8 +31,11 @@ loop-again c = search needs
 answer-untaken-requires : tie.Need-answer-untaken-requires Inv-loop μ-loop
 answer-untaken-requires c κs = search needs
 
+tell-partings-requires : tie.Need-tell-partings-requires Inv-loop μ-loop
+tell-partings-requires c κs = search needs
+
 returns : tie.Need-returns Inv-loop μ-loop
 returns c = search needs
 
 pub main-spec : {M : Type 1} → statement M
-main-spec = tie.close (tie.spec Inv-loop μ-loop arg-count-requires loop-holds answer-case-requires add-i loop-less loop-again answer-untaken-requires returns)
+main-spec = tie.close (tie.spec Inv-loop μ-loop arg-count-requires loop-holds answer-case-requires add-i loop-less loop-again answer-untaken-requires tell-partings-requires returns)
