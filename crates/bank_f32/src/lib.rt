@@ -6,7 +6,7 @@ pub mod work;
 use border::Border;
 
 // Both tap lists of the way there and both of the way back, `taps` of each array in use, and the border.
-#[derive(Drop)]
+#[derive(Clone, Copy)]
 pub struct Bank {
     pub low: [f32; 64],
     pub high: [f32; 64],

@@ -2,7 +2,7 @@
 pub mod pad;
 pub mod rule;
 
-#[derive(Drop)]
+#[derive(Clone, Copy)]
 pub enum Border {
     Clamp,
     Wrap,

@@ -7,7 +7,7 @@ ghost use Rattle.border.specs.Reach.{Lap, Goes, Long, laps_of};
 use crate::Border;
 
 // A signed place, by its sign.
-#[derive(Drop)]
+#[derive(Clone, Copy)]
 pub enum Place {
     // -(k + 1)
     Before(usize),
@@ -15,7 +15,7 @@ pub enum Place {
 }
 
 // What stands beyond a line, on both sides: the nearest end, nothing, or its samples lap by lap.
-#[derive(Drop)]
+#[derive(Clone, Copy)]
 pub enum Way {
     Ends,
     Nothing,

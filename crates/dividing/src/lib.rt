@@ -6,7 +6,7 @@ ghost use Rattle.dividing.specs.Divisions.{bad_divisor, divided, finished};
 use std::num::{nearest_u64_to_f64, truncating_f64_to_u64};
 
 // What is done to a joined line before it is trimmed and used.
-#[derive(Drop)]
+#[derive(Clone, Copy)]
 pub enum Finish {
     Kept,
     DividedBy(f64),

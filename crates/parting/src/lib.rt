@@ -2,7 +2,7 @@
 pub mod finding;
 
 // Same, or the first place where the approximations part, or where those are the same that of the details.
-#[derive(Drop)]
+#[derive(Clone, Copy)]
 pub enum Parting {
     Same,
     Approx(usize),

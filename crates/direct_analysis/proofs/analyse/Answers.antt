@@ -1,0 +1,11 @@
+-- `direct_analysis::analyse` meets its contract: it is that of its lists, which are a bank's arrays with their count.
+use mathlib.Core.Path.{sym}
+use Rattle.bank.specs.Tested.{counted_all}
+use borrow.Author.Rules.{rules}
+use Rattle.direct_analysis.proofs.analyse.Goals as goal
+
+pub analyse-requires : goal.analyse-requires
+analyse-requires c = counted_all (search rules) (search rules)
+
+pub returns : goal.returns
+returns c = c.analyse.ensures

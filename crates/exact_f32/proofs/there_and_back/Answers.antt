@@ -1,0 +1,13 @@
+-- `exact_f32::there_and_back` meets its contract by the promises of both ways over lists: a refusal leaves all as it was, and what is done is one way's work after the other's.
+use mathlib.Core.Path.{refl}
+use Rattle.numbers.specs.Tests.{other}
+use lib.Ieee.{binary32}
+use Rattle.exact.specs.Calls.{returned_refused, returned_done}
+use Rattle.exact_f32.proofs.there_and_back.Goals as goal
+
+pub returns-in_default : goal.returns-in_default
+returns-in_default c = let r = c.back_answer-answer.result in
+    returned_refused binary32 _ _ _ _ _ _ _ _ _ _ _ c.back_answer-answer.ensures c.in_default.not-Done
+
+pub returns : goal.returns
+returns c = returned_done binary32 _ _ _ _ _ _ _ _ _ _ _ c.back_answer-answer.ensures c.in-Done.is c.analyse.ensures c.clear.ensures c.synthesise.ensures

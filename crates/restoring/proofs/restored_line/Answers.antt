@@ -1,0 +1,47 @@
+-- `restoring::restored_line` meets its contract: where restoring is refused the part is empty, and else it is the front of the buffer that holds the line.
+use lib.Ieee.{binary64}
+use lib.ListN.{length}
+use mathlib.Core.Path.{◌∙◌, ap, refl, sym}
+use native.Mathlib.Omega.{arith}
+use Rattle.numbers.specs.Tests.{refused, renewed}
+use Rattle.bank.specs.Tested.{counted_all}
+use Rattle.packed.specs.Lengths.{levels_of}
+use Rattle.packed.specs.Answers.{number_of}
+use Rattle.packed.specs.Tested.{done_alone}
+use Rattle.restoring.specs.Lines.{restored}
+use Rattle.restoring.specs.Tested.{restoring, none_out, line_out, fronted}
+use Rattle.restoring.specs.Works.{Restoring}
+use borrow.Author.Rules.{rules}
+use Rattle.restoring.proofs.restored_line.Goals as goal
+use Rattle.restoring.proofs.restored_line.Goals.{In-Done}
+
+pub restore_levels-answer-requires : goal.restore_levels-answer-requires
+restore_levels-answer-requires c = counted_all (search rules) (search rules)
+
+pub returns-in_default : goal.returns-in_default
+returns-in_default c = let a = c.args in
+    let e = c.restore_levels-answer.ensures.answer in
+    let h = c.in_default.not-Done in
+    let o = none_out _ (restored binary64 a.bank.taps a.bank.lowback a.bank.highback a.packed.now a.n (levels_of a.levels)) a.levels a.first a.second
+    (refused number_of done_alone _ (λ q. h (e ∙ q))) in
+    record { handed = o.0; lies = o.1 }
+
+-- every test passed
+all : (c : In-Done) → let a = c.args in
+    Restoring a.n a.bank.taps (levels_of a.levels) (length a.packed.now) (length a.first.now) (length a.second.now)
+all c =
+    let a = c.args in
+    restoring a.n a.bank.taps a.levels (levels_of a.levels) _ _ _ refl (sym c.restore_levels-answer.ensures.answer ∙ c.in-Done.is)
+
+pub front-requires : goal.front-requires
+front-requires c = let a = c.args in
+    let f = fronted a.levels (all (goal.at.front-requires c).In-Done) in
+    record { ready = f.ready; room = omega (arith, f.room, c.restore_levels-answer.auto.first); space = omega (arith, f.space, c.restore_levels-answer.auto.second) }
+
+pub returns : goal.returns
+returns c = let a = c.args in
+    let p = c.restore_levels-answer.ensures in
+    let z = c.in-Done.is in
+    let o = line_out (λ l. l) (λ l. refl) a.bank.lowback a.bank.highback a.bank.taps a.packed.now a.n a.levels a.first a.second (all (goal.at.returns c).In-Done)
+    (renewed _ _ (ap number_of z) p.firsts) (renewed _ _ (ap number_of z) p.seconds) (ap number_of (sym p.answer ∙ z)) c.front.ensures.numbers c.front.ensures.lies in
+    record { handed = o.0; lies = o.1 }

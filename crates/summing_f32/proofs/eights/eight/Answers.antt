@@ -1,0 +1,25 @@
+-- `summing_f32::eights::eight` meets its contract: after j taps both lists hold the sums of j taps of eight places.
+use borrow.Author.Rules.{rules}
+use Prim.Native.Nat.{◌-◌}
+use mathlib.Core.Path.{◌∙◌, ap}
+use lib.ListN.{length}
+use lib.Ieee.{binary32}
+use Rattle.numbers.specs.Write.{length-tab}
+use Rattle.summing.specs.Turns.{sums_start, sums_step, sums_end}
+use Rattle.summing_f32.proofs.eights.eight.Goals as goal
+
+pub loop-j-init : goal.loop-j-init
+loop-j-init c = let a = c.args in
+    (search rules, search rules, search rules, sums_start binary32 a.low.now a.padded.now a.from, sums_start binary32 a.high.now a.padded.now a.from)
+
+pub loop-j-preserved : goal.loop-j-preserved
+loop-j-preserved c = let a = c.args in
+    let lows = sums_step binary32 a.low.now a.padded.now a.from c.loop-j.j 8 c.loop-j.invariant.3 c.tap_eight.ensures.0 in
+    let highs = sums_step binary32 a.high.now a.padded.now a.from c.loop-j.j 8 c.loop-j.invariant.4 c.tap_eight.ensures.1 in
+    (search rules, ap length lows ∙ length-tab _ 8, ap length highs ∙ length-tab _ 8, lows, highs)
+
+pub returns : goal.returns
+returns c = let a = c.args in (
+  sums_end binary32 a.low.now a.padded.now a.from c.loop-j.j a.f 8 c.loop-j.invariant.3 (search rules) (search rules),
+  sums_end binary32 a.high.now a.padded.now a.from c.loop-j.j a.f 8 c.loop-j.invariant.4 (search rules) (search rules),
+)
