@@ -9,6 +9,13 @@ use printing::Printing;
 // One byte more than may be read tells that the text is longer.
 pub const MOST_READ: usize = LONGEST_TEXT + 1;
 
+// The descriptors that a program begins with.
+pub const INPUT: i32 = 0;
+
+pub const OUTPUT: i32 = 1;
+
+pub const ERRORS: i32 = 2;
+
 // A text that was printed at the front of `out`.
 pub fn write_printed(printed: Printing, out: &[u8], to: i32) -> bool
     requires { size_in printed ≤ length out.now }

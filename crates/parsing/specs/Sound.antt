@@ -174,6 +174,12 @@ unfolding line_from
 after [] Next next z e = absurd (true≢false (sym e))
 after [] Minus below z e = absurd (true≢false (sym e))
 after [] (Number negative size) (within v) z e = absurd (true≢false (sym e))
+after [] Fresh p z e = elim p [ ]
+after [] Closed p z e = elim p [ ]
+after [] Broken p z e = elim p [ ]
+after (c ∷ t) Fresh p z e = elim p [ ]
+after (c ∷ t) Closed p z e = elim p [ ]
+after (c ∷ t) Broken p z e = elim p [ ]
 after (c ∷ t) Next next z e = first_byte c t (after t) z e
 after (c ∷ t) Minus below z e = first_digit true c t (after t) z e
 after (c ∷ t) (Number negative size) (within v) z e = behind_number negative size v z c t (after t) e

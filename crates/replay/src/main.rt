@@ -1,16 +1,17 @@
 // Replays each list that the arguments name.
 use questions::replay;
 use questions::saying::say;
+use std::env;
+use std::fd::AsRawFd;
+use std::fs::File;
 
-fn replay_file(name: &[u8]) {
-    let fd = os::open_read(name);
-    if fd < 0 {
+fn replay_file(rt: &HostRuntime, name: &str) {
+    let Ok(file) = File::open(rt, name) else {
         io::write_all(1, b"cannot be opened\n");
         return;
-    }
+    };
     let mut list = [0u8; 524288];
-    let n = io::read_full(fd, &mut list);
-    libc::close(fd);
+    let n = io::read_full(file.as_raw_fd(), &mut list);
     // A list that fills the buffer may go on.
     if n == 524288 {
         io::write_all(1, b"is too long\n");
@@ -19,18 +20,16 @@ fn replay_file(name: &[u8]) {
     say(replay(&list[..n]));
 }
 
-fn replay_named(i: usize) {
-    let mut space = io::buffer();
-    let n = os::arg(i, &mut space);
-    let name = &space[..n];
-    io::write_all(1, name);
+fn replay_named(rt: &HostRuntime, name: &str) {
+    io::write_all(1, name.as_bytes());
     io::write_all(1, b": ");
-    replay_file(name);
+    replay_file(rt, name);
 }
 
-fn main() {
+fn main(rt: HostRuntime) -> std::io::Result<()> {
     // Argument 0 is the program's own name.
-    for i in 1..os::arg_count() {
-        replay_named(i);
+    for name in env::args(&rt)?.skip(1) {
+        replay_named(&rt, name.as_str());
     }
+    Ok(())
 }

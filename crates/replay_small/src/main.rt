@@ -2,8 +2,10 @@
 use questions::replay;
 use questions::saying::say;
 
+const INPUT: i32 = 0;
+
 fn main() {
     let mut list = [0u8; 65536];
-    let n = io::read_full(libc::STDIN_FILENO, &mut list);
+    let n = io::read_full(INPUT, &mut list);
     say(replay(&list[..n]));
 }

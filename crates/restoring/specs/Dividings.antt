@@ -1,7 +1,7 @@
 -- Restoring several levels, each joined line divided by s: the answers with their numbers, and what both buffers and the part handed out then hold. Definitions only.
 use Rattle.std.specs.Prelude.{◌≡◌, cond, List, [], ℕ, ◌%◌, eqb, length, Float}
 use Rattle.std.specs.Float.{Format, binary64}
-use Rattle.std.specs.Borrow.{Bor}
+use Rattle.std.specs.Borrow.{MutBor}
 use Rattle.numbers.specs.Words.{when_done}
 use Rattle.bank.specs.Lengths.{bad_taps}
 use Rattle.packed.specs.declared.Levels.TheVariants as answers
@@ -42,7 +42,7 @@ pub record DividedBack (low high : List Float) (f : ℕ) (s : Float) (packed : L
   pub seconds : second' ≡ when_done (number_of r) (second_by (divided binary64 s) binary64 f low high packed n (levels_of levels) (levels_of levels) second) second
 
 -- the line, and the empty part on a refusal: its numbers, and that it lies at the front of the buffer that holds the line, of the first on a refusal
-pub record DividedOut (low high : List Float) (f : ℕ) (s : Float) (packed : List Float) (n levels : ℕ) (first second part : Bor (List Float)) : Type 0 where
+pub record DividedOut (low high : List Float) (f : ℕ) (s : Float) (packed : List Float) (n levels : ℕ) (first second part : MutBor (List Float)) : Type 0 where
   pub handed : part.now ≡ when_done (number_of (answer_of n f s levels (length packed) (length first.now) (length second.now)))
       (restored_divided binary64 s f low high packed n (levels_of levels)) []
   pub lies : part.ref_ptr ≡ when_done (number_of (answer_of n f s levels (length packed) (length first.now) (length second.now)))

@@ -2,7 +2,7 @@
 -- The enum with its numbers and values stands in `packed` (Answers).
 use Rattle.std.specs.Prelude.{◌≡◌, cond, List, [], ℕ, ◌%◌, eqb, ltb, length, Float}
 use Rattle.std.specs.Float.{binary64}
-use Rattle.std.specs.Borrow.{Bor}
+use Rattle.std.specs.Borrow.{MutBor}
 use Rattle.numbers.specs.Words.{when_done, and_then}
 use Rattle.packed.specs.declared.Levels.{Levels}
 use Rattle.packed.specs.declared.Levels.TheVariants.{Done, ScratchSize}
@@ -25,7 +25,7 @@ pub record Restored (low high : List Float) (f : ℕ) (packed : List Float) (n l
   pub seconds : second' ≡ when_done (number_of r) (second_after binary64 f low high packed n (levels_of levels) (levels_of levels) second) second
 
 -- the line, and the empty part on a refusal: its numbers, and that it lies at the front of the buffer that holds the line, of the first on a refusal
-pub record HandedOut (low high : List Float) (f : ℕ) (packed : List Float) (n levels : ℕ) (first second part : Bor (List Float)) : Type 0 where
+pub record HandedOut (low high : List Float) (f : ℕ) (packed : List Float) (n levels : ℕ) (first second part : MutBor (List Float)) : Type 0 where
   pub handed : part.now ≡ when_done (number_of (answer_of n f levels (length packed) (length first.now) (length second.now)))
       (restored binary64 f low high packed n (levels_of levels)) []
   pub lies : part.ref_ptr ≡ when_done (number_of (answer_of n f levels (length packed) (length first.now) (length second.now)))

@@ -1,34 +1,25 @@
 -- Laws of the tests: an answer is done where every test passed, which gives the work what it asks for, and the part handed out is the restored line.
-use Rattle.std.specs.Prelude.{◌≡◌, Bool, cond, List, [], ltb, eqb, length, take, Float}
-use Rattle.std.proofs.Math.Path.{refl, ap, subst}
-use Rattle.std.proofs.Common.{sym, ◌∙◌, arith, ltb-false}
-use Rattle.std.proofs.Math.Bool.{true, false}
-use Prim.Native.Nat.{ℕ, zero, suc, ◌-◌, ◌%◌, ◌<◌}
-use Rattle.std.proofs.Math.Dec.{lit<}
-use Rattle.std.specs.Float.{Format}
-use Rattle.std.specs.Float.Ieee.{binary64}
-use Rattle.std.specs.Borrow.{Bor}
+use Rattle.std.specs.Prelude.{◌≡◌, refl, cond, List, [], ℕ, zero, suc, ◌-◌, ◌%◌, ltb, eqb, length, take, Float}
+use Rattle.std.proofs.Common.{sym, ap, ◌∙◌, arith, ltb-false, eq-eqb, ne_eqb, lit<}
+use Rattle.std.specs.Float.{Format, binary64}
+use Rattle.std.specs.Borrow.{MutBor}
 use Rattle.numbers.specs.Words.{when_done}
-use Rattle.numbers.specs.Tests.{passed, kept}
-use Rattle.bank.specs.Lengths.{bad_taps, line_length}
+use Rattle.numbers.specs.Tests.{passed, refused, kept, renewed, cond_true, cond_false}
+use Rattle.bank.specs.Lengths.{line_length}
 use Rattle.synthesis.specs.Runs.{length_join}
 use Rattle.packed.specs.declared.Levels.{Levels}
-use Rattle.packed.specs.declared.Levels.TheVariants as answers
+use Rattle.packed.specs.declared.Levels.TheVariants.{Done}
 use Rattle.packed.specs.Lengths.{levels_of, line_after, restoring_length}
 use Rattle.packed.specs.Answers.{number_of, held_of, part_at}
-use Rattle.packed.specs.Tested.{done_alone, both_done, filled, first_line}
+use Rattle.packed.specs.Tested.{done_alone, both_done, filled}
 use Rattle.packed.specs.Follow.{length_part, whole_length}
-use Rattle.dividing.specs.Divisions.{bad_divisor}
-use Rattle.restoring.specs.declared.divided.Divided.{Divided}
-use Rattle.restoring.specs.declared.divided.Divided.TheVariants.{Done, Divisor, Refused}
-use Rattle.restoring.specs.Lines.{joined_by, first_by, second_by}
-use Rattle.restoring.specs.Restorings.{answer_of}
-use Rattle.restoring.specs.Dividings as Dividings
+use Rattle.restoring.specs.Lines.{restored_after, restored}
+use Rattle.restoring.specs.Restorings.{answer_of, Restored, HandedOut}
 use Rattle.restoring.specs.Steps.{whole_front}
-use Rattle.restoring.specs.Works.{Restoring, Fronted}
+use Rattle.restoring.specs.Works.{Restoring}
 
 -- k is the number of levels by another name
-pub restoring : (n f levels k p a b : ℕ) → k ≡ levels_of levels → answer_of n f levels p a b ≡ answers.Done → Restoring n f k p a b
+pub restoring : (n f levels k p a b : ℕ) → k ≡ levels_of levels → answer_of n f levels p a b ≡ Done → Restoring n f k p a b
 unfolding answer_of
 restoring n f levels k p a b z e =
     let q = both_done (held_of n f levels p) _ e in
@@ -36,89 +27,54 @@ restoring n f levels k p a b z e =
     let u = passed number_of (ltb b (restoring_length n f)) t.1 (lit< tt) refl in
     record { packs = filled n f levels k p z q.0; room = ltb-false a (restoring_length n f) t.0; space = ltb-false b (restoring_length n f) u.0 }
 
--- ---- with a divisor
-module _ (n f : ℕ) (s : Float) (levels p a b : ℕ) where
-  abbrev lengths : Levels
-  lengths = answer_of n f levels p a b
-
-  -- done where restoring is, by a divisor that is none of the bad ones
-  pub divided_done : Dividings.answer_of n f s levels p a b ≡ Done → (bad_divisor binary64 s ≡ false) × (lengths ≡ answers.Done)
-  unfolding Dividings.answer_of
-  divided_done e =
-      let t = passed Dividings.number_of (bad_taps f) e (lit< tt) refl in
-      let u = passed Dividings.number_of (bad_divisor binary64 s) t.1 (lit< tt) refl in
-      (u.0, done_alone lengths (go (number_of lengths) refl u.1))
-    where
-      go : (k : ℕ) → number_of lengths ≡ k → when_done k Done (Refused lengths) ≡ Done → number_of lengths ≡ 0
-      go zero q e = q
-      go (suc k) q e = ap Dividings.number_of e
-
-  -- every other answer has a number above 0
-  pub divided_refused : {r : Divided} → r ≡ Dividings.answer_of n f s levels p a b → (r ≡ Done → ⊥) → 0 < Dividings.number_of r
-  unfolding Dividings.answer_of
-  divided_refused e h = subst (λ (x : Divided). 0 < Dividings.number_of x) (sym e) (go (bad_taps f) (bad_divisor binary64 s) (number_of lengths) refl (λ q. h (e ∙ q)))
-    where
-      go : (t u : Bool) (k : ℕ) → number_of lengths ≡ k → (cond t (Refused answers.Taps) (cond u Divisor (when_done k Done (Refused lengths))) ≡ Done → ⊥)
-          → 0 < Dividings.number_of (cond t (Refused answers.Taps) (cond u Divisor (when_done k Done (Refused lengths))))
-      go true u k q h = lit< tt
-      go false true k q h = lit< tt
-      go false false zero q h = absurd (h refl)
-      go false false (suc k) q h = omega (arith, q)
-
-  -- so that 0 is the number of done alone
-  pub divided_alone : (r : Divided) → r ≡ Dividings.answer_of n f s levels p a b → Dividings.number_of r ≡ 0 → r ≡ Done
-  divided_alone Done e z = refl
-  divided_alone Divisor e z = absurd (omega (arith, z))
-  divided_alone (Refused x) e z = let h = divided_refused e (λ q. let k = ap tagged q in absurd (omega arith)) in absurd (omega (arith, z, h))
-    where
-      tagged : Divided → ℕ
-      tagged Done = 0
-      tagged Divisor = 1
-      tagged (Refused y) = 2
-
--- ---- the line
--- the whole line has the first level's synthesis length, whatever is done to a joined line that keeps its length
-pub length-joined : (done : List Float → List Float) (g : Format) (low high packed : List Float) (n F levels p a b : ℕ) → ((l : List Float) → length (done l) ≡ length l)
-    → Restoring n F levels p a b → length packed ≡ p → length (joined_by done g F low high packed n levels levels) ≡ restoring_length n F
-unfolding joined_by line_after
-length-joined done g low high packed n F zero p a b long w e = absurd (omega (arith, w.packs.some))
-length-joined done g low high packed n F (suc j) p a b long w e =
+-- the whole line has the first level's synthesis length
+pub length-restored : (g : Format) (low high packed : List Float) (n F levels p a b : ℕ) → Restoring n F levels p a b → length packed ≡ p
+    → length (restored g F low high packed n levels) ≡ restoring_length n F
+unfolding restored_after line_after
+length-restored g low high packed n F zero p a b w e = absurd (omega (arith, w.packs.some))
+length-restored g low high packed n F (suc j) p a b w e =
     let one : suc j - j ≡ 1 = omega arith in
-    long _
-    ∙ length_join g F low high _ _ (part_at n F (suc j) packed (suc j - j))
+    length_join g F low high _ _ (part_at n F (suc j) packed (suc j - j))
     ∙ ap (λ (k : ℕ). line_length (length (part_at n F (suc j) packed k)) F) one
     ∙ ap (λ (m : ℕ). line_length m F) (length_part n F (suc j) 1 packed w.packs.sound.taps.two (omega arith) (e ∙ whole_length w.packs))
 
--- ---- the part handed out, by the answer's number: none on a refusal, else the front of the buffer that holds the line
-abbrev pub Out : ℕ → List Float → ℕ → Bor (List Float) → Bor (List Float) → List Float → ℕ × ℕ → Type 0
-Out number line levels first second part lies =
-    (part ≡ when_done number line []) × (lies ≡ when_done number (cond (eqb (levels_of levels % 2) 0) second.ref_ptr first.ref_ptr) first.ref_ptr)
+-- ---- the part handed out: none on a refusal, else the front of the buffer that holds the line
+pub none_handed : {low high : List Float} {f : ℕ} {packed : List Float} {n levels : ℕ} {first second part : MutBor (List Float)} (r : Levels)
+    → r ≡ answer_of n f levels (length packed) (length first.now) (length second.now) → (r ≡ Done → ⊥) → part.now ≡ [] → part.ref_ptr ≡ first.ref_ptr
+    → HandedOut low high f packed n levels first second part
+none_handed r e h none front = let k = refused number_of done_alone _ (λ q. h (e ∙ q)) in record { handed = none ∙ kept _ k _ []; lies = front ∙ kept _ k _ _ }
 
-pub none_out : (number : ℕ) (line : List Float) (levels : ℕ) (first second : Bor (List Float)) → 0 < number → Out number line levels first second [] first.ref_ptr
-none_out number line levels first second h = (kept number h line [], kept number h _ _)
-
-module _ (done : List Float → List Float) (long : (l : List Float) → length (done l) ≡ length l) (low high : List Float) (f : ℕ) (packed : List Float) (n levels : ℕ)
-    (first second : Bor (List Float)) {first' second' : List Float} (all : Restoring n f (levels_of levels) (length packed) (length first.now) (length second.now))
-    (firsts : first' ≡ first_by done binary64 f low high packed n (levels_of levels) (levels_of levels) first.now)
-    (seconds : second' ≡ second_by done binary64 f low high packed n (levels_of levels) (levels_of levels) second.now) where
-  abbrev even : Bool
-  even = eqb (levels_of levels % 2) 0
+module _ (low high : List Float) (f : ℕ) (packed : List Float) (n levels : ℕ) (first second part : MutBor (List Float)) (first' second' : List Float) (r : Levels) (k m : ℕ)
+    (p : Restored low high f packed n levels first.now second.now r first' second') (done : r ≡ Done) (count : k ≡ levels_of levels) (long : m ≡ restoring_length n f) where
+  all : Restoring n f (levels_of levels) (length packed) (length first.now) (length second.now)
+  all = restoring n f levels (levels_of levels) (length packed) (length first.now) (length second.now) refl (sym p.answer ∙ done)
 
   abbrev line : List Float
-  line = joined_by done binary64 f low high packed n (levels_of levels) (levels_of levels)
+  line = restored binary64 f low high packed n (levels_of levels)
 
-  -- the front of the buffer that holds the line is the line
-  pub front_line : take (restoring_length n f) (cond even second' first') ≡ line
-  front_line =
-      ap (λ (l : List Float). take (restoring_length n f) (cond even l first')) seconds
-      ∙ ap (λ (l : List Float). take (restoring_length n f) (cond even (second_by done binary64 f low high packed n (levels_of levels) (levels_of levels) second.now) l)) firsts
-      ∙ whole_front done binary64 f low high packed n (levels_of levels) (restoring_length n f) first.now second.now all.packs.some
-      (sym (length-joined done binary64 low high packed n f (levels_of levels) _ _ _ long all refl))
+  abbrev place : ℕ × ℕ
+  place = cond (eqb (levels_of levels % 2) 0) second.ref_ptr first.ref_ptr
 
-  pub line_out : {number : ℕ} {part : List Float} {lies : ℕ × ℕ} → number ≡ 0 → part ≡ take (restoring_length n f) (cond even second' first') → lies ≡ cond even second.ref_ptr first.ref_ptr
-      → Out number line levels first second part lies
-  line_out z e q = (e ∙ front_line ∙ sym (ap (λ (k : ℕ). when_done k line []) z), q ∙ sym (ap (λ (k : ℕ). when_done k (cond even second.ref_ptr first.ref_ptr) first.ref_ptr) z))
+  as_handed : part.now ≡ line → part.ref_ptr ≡ place → HandedOut low high f packed n levels first second part
+  as_handed e q =
+      let z = sym p.answer ∙ done in
+      record { handed = e ∙ sym (ap (λ (a : Levels). when_done (number_of a) line []) z); lies = q ∙ sym (ap (λ (a : Levels). when_done (number_of a) place first.ref_ptr) z) }
 
--- the work buffers have room for it
-pub fronted : {n f p a b : ℕ} (levels : ℕ) → Restoring n f (levels_of levels) p a b → Fronted n f a b
-fronted levels w = record { ready = first_line {levels = levels} (record { sound = w.packs.sound; long = w.packs.long }); room = w.room; space = w.space }
+  length-line : m ≡ length line
+  length-line = long ∙ sym (length-restored binary64 low high packed n f (levels_of levels) _ _ _ all refl)
+
+  pub second_handed : k % 2 ≡ 0 → part.now ≡ take m second' → part.ref_ptr ≡ second.ref_ptr → HandedOut low high f packed n levels first second part
+  second_handed e there lies =
+      let t = eq-eqb (levels_of levels % 2) 0 (ap (λ (j : ℕ). j % 2) (sym count) ∙ e) in
+      as_handed
+      (there ∙ ap (take m) (renewed _ second.now (ap number_of done) p.seconds ∙ sym (cond_true (eqb (levels_of levels % 2) 0) _ _ t))
+      ∙ whole_front binary64 f low high packed n (levels_of levels) m first.now second.now all.packs.some length-line)
+      (lies ∙ sym (cond_true (eqb (levels_of levels % 2) 0) _ _ t))
+
+  pub first_handed : (k % 2 ≡ 0 → ⊥) → part.now ≡ take m first' → part.ref_ptr ≡ first.ref_ptr → HandedOut low high f packed n levels first second part
+  first_handed h there lies =
+      let t = ne_eqb (levels_of levels % 2) 0 (λ e. h (ap (λ (j : ℕ). j % 2) count ∙ e)) in
+      as_handed
+      (there ∙ ap (take m) (renewed _ first.now (ap number_of done) p.firsts ∙ sym (cond_false (eqb (levels_of levels % 2) 0) _ _ t))
+      ∙ whole_front binary64 f low high packed n (levels_of levels) m first.now second.now all.packs.some length-line)
+      (lies ∙ sym (cond_false (eqb (levels_of levels % 2) 0) _ _ t))

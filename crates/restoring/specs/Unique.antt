@@ -1,7 +1,7 @@
 -- Laws of what the entries promise: any two outcomes that a promise admits are equal, since each is an equation of the answer and of both buffers, or of the part handed out and where it lies.
 use Rattle.std.specs.Prelude.{◌≡◌, List, ℕ, Float}
 use Rattle.std.proofs.Common.{sym, ◌∙◌}
-use Rattle.std.specs.Borrow.{Bor}
+use Rattle.std.specs.Borrow.{MutBor}
 use Rattle.packed.specs.declared.Levels.{Levels}
 use Rattle.restoring.specs.declared.divided.Divided.{Divided}
 use Rattle.restoring.specs.Restorings.{answer_of, Restored, HandedOut}
@@ -12,7 +12,7 @@ pub unique_restore_levels : {low high : List Float} {f : ℕ} {packed : List Flo
     → Restored low high f packed n levels first second r a b → Restored low high f packed n levels first second r' a' b' → (r ≡ r') × (a ≡ a') × (b ≡ b')
 unique_restore_levels p q = let e = p.answer ∙ sym q.answer in (e, (cc), (cc))
 
-pub unique_restored_line : {low high : List Float} {f : ℕ} {packed : List Float} {n levels : ℕ} {first second part part' : Bor (List Float)}
+pub unique_restored_line : {low high : List Float} {f : ℕ} {packed : List Float} {n levels : ℕ} {first second part part' : MutBor (List Float)}
     → HandedOut low high f packed n levels first second part → HandedOut low high f packed n levels first second part' → (part.now ≡ part'.now) × (part.ref_ptr ≡ part'.ref_ptr)
 unique_restored_line p q = (p.handed ∙ sym q.handed, p.lies ∙ sym q.lies)
 
@@ -24,7 +24,7 @@ pub unique_restore_divided : {low high : List Float} {f : ℕ} {s : Float} {pack
     → DividedBack low high f s packed n levels first second r a b → DividedBack low high f s packed n levels first second r' a' b' → (r ≡ r') × (a ≡ a') × (b ≡ b')
 unique_restore_divided p q = let e = p.answer ∙ sym q.answer in (e, (cc), (cc))
 
-pub unique_divided_line : {low high : List Float} {f : ℕ} {s : Float} {packed : List Float} {n levels : ℕ} {first second part part' : Bor (List Float)}
+pub unique_divided_line : {low high : List Float} {f : ℕ} {s : Float} {packed : List Float} {n levels : ℕ} {first second part part' : MutBor (List Float)}
     → DividedOut low high f s packed n levels first second part → DividedOut low high f s packed n levels first second part' → (part.now ≡ part'.now) × (part.ref_ptr ≡ part'.ref_ptr)
 unique_divided_line p q = (p.handed ∙ sym q.handed, p.lies ∙ sym q.lies)
 

@@ -1,7 +1,7 @@
 -- What the functions that entries share ask for, and what one join leaves. Definitions only.
 use Rattle.std.specs.Prelude.{◌≡◌, cond, List, ℕ, ◌+◌, ◌%◌, ◌≤◌, eqb, take, Float}
 use Rattle.std.specs.Float.{Format}
-use Rattle.std.specs.Borrow.{Bor}
+use Rattle.std.specs.Borrow.{MutBor}
 use Rattle.numbers.specs.Words.{longest, headed}
 use Rattle.bank.specs.Lengths.{GoodTaps, line_length, Analysable}
 use Rattle.packed.specs.Lengths.{levels_of, restoring_length}
@@ -12,12 +12,19 @@ use Rattle.restoring.specs.Lines.{level_join}
 abbrev pub line_held : List Float → List Float → List Float → ℕ → List Float
 line_held deepest first second j = cond (eqb j 0) deepest (cond (eqb (j % 2) 0) second first)
 
--- what join j leaves of either buffer, with `done` done to the joined line
-abbrev pub turn_first : (List Float → List Float) → Format → ℕ → List Float → List Float → List Float → List Float → ℕ → List Float → List Float
-turn_first done g F low high line detail j x = cond (eqb (j % 2) 0) (headed (done (level_join g F low high line detail)) x) x
+-- what join j leaves of either buffer
+abbrev pub turn_first : Format → ℕ → List Float → List Float → List Float → List Float → ℕ → List Float → List Float
+turn_first g F low high line detail j x = cond (eqb (j % 2) 0) (headed (level_join g F low high line detail) x) x
 
-abbrev pub turn_second : (List Float → List Float) → Format → ℕ → List Float → List Float → List Float → List Float → ℕ → List Float → List Float
-turn_second done g F low high line detail j x = cond (eqb (j % 2) 0) x (headed (done (level_join g F low high line detail)) x)
+abbrev pub turn_second : Format → ℕ → List Float → List Float → List Float → List Float → ℕ → List Float → List Float
+turn_second g F low high line detail j x = cond (eqb (j % 2) 0) x (headed (level_join g F low high line detail) x)
+
+-- what join j leaves of either buffer, with `done` done to the joined line
+abbrev pub turn_first_by : (List Float → List Float) → Format → ℕ → List Float → List Float → List Float → List Float → ℕ → List Float → List Float
+turn_first_by done g F low high line detail j x = cond (eqb (j % 2) 0) (headed (done (level_join g F low high line detail)) x) x
+
+abbrev pub turn_second_by : (List Float → List Float) → Format → ℕ → List Float → List Float → List Float → List Float → ℕ → List Float → List Float
+turn_second_by done g F low high line detail j x = cond (eqb (j % 2) 0) x (headed (done (level_join g F low high line detail)) x)
 
 -- a line and m details by f taps, whose joined line is no shorter than they are, and an output with room for it
 pub record Joining (f line m out : ℕ) : Type 0 where
@@ -49,6 +56,6 @@ pub record Fronted (n f a b : ℕ) : Type 0 where
   pub space : restoring_length n f ≤ b
 
 -- the front of the buffer that holds the line: its numbers, and where it lies
-pub record Front (n f levels : ℕ) (first second part : Bor (List Float)) : Type 0 where
+pub record Front (n f levels : ℕ) (first second part : MutBor (List Float)) : Type 0 where
   pub numbers : part.now ≡ take (restoring_length n f) (cond (eqb (levels_of levels % 2) 0) second.now first.now)
   pub lies : part.ref_ptr ≡ cond (eqb (levels_of levels % 2) 0) second.ref_ptr first.ref_ptr

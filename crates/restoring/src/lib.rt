@@ -6,8 +6,8 @@ pub mod work;
 ghost use Rattle.std.specs.Prelude.{◌≡◌};
 ghost use Rattle.restoring.specs.Restorings.{answer_of, Restored, HandedOut};
 
-use crate::work::front;
 use bank::Bank;
+use numbers::most;
 use packed::depth::restoring_need;
 use packed::{Levels, packed_answer};
 
@@ -73,5 +73,10 @@ pub fn restored_line<'a>(
     let Levels::Done = answer else {
         return &mut first[..0];
     };
-    front(n, f, levels, first, second)
+    let length = restoring_need(n, f);
+    if most(levels, 1) % 2 == 0 {
+        &mut second[..length]
+    } else {
+        &mut first[..length]
+    }
 }

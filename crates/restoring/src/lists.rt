@@ -6,7 +6,7 @@ ghost use Rattle.restoring.specs.Dividings.{DividedBack};
 
 use crate::divided::{Divided, divided_answer};
 use crate::restoring_answer;
-use crate::work::restore;
+use crate::work::{restore, restore_by};
 use dividing::Finish;
 use numbers::most;
 use packed::Levels;
@@ -30,18 +30,7 @@ pub fn restore_levels<'a>(
     let Levels::Done = answer else {
         return answer;
     };
-    let kept = Finish::Kept;
-    restore(
-        low,
-        high,
-        f,
-        kept,
-        packed,
-        n,
-        most(levels, 1),
-        first,
-        second,
-    );
+    restore(low, high, f, packed, n, most(levels, 1), first, second);
     Levels::Done
 }
 
@@ -66,6 +55,6 @@ pub fn restore_divided<'a>(
         return answer;
     };
     let by = Finish::DividedBy(s);
-    restore(low, high, f, by, packed, n, most(levels, 1), first, second);
+    restore_by(low, high, f, by, packed, n, most(levels, 1), first, second);
     Divided::Done
 }

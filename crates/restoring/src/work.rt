@@ -4,8 +4,8 @@ ghost use Rattle.std.specs.Float.{binary64};
 ghost use Rattle.numbers.specs.Words.{headed};
 ghost use Rattle.bank.specs.Lengths.{Lent};
 ghost use Rattle.dividing.specs.Divisions.{finished};
-ghost use Rattle.restoring.specs.Lines.{level_join, first_by, second_by};
-ghost use Rattle.restoring.specs.Works.{line_held, turn_first, turn_second, Joining, Turning, Restoring, Fronted, Front};
+ghost use Rattle.restoring.specs.Lines.{level_join, first_after, second_after, first_by, second_by};
+ghost use Rattle.restoring.specs.Works.{line_held, turn_first_by, turn_second_by, Joining, Turning, Restoring, Fronted, Front};
 
 use bank::lengths::idwt_length;
 use dividing::{Finish, finish_line};
@@ -45,8 +45,8 @@ fn join_level<'a>(
     second: &mut [f64],
 )
     requires { Lent f (length low.now) (length high.now) × Turning f (length deepest.now) (length detail.now) j (length first.old) (length second.old) }
-    ensures { (first.new ≡ turn_first (finished binary64 how) binary64 f low.now high.now (line_held deepest.now first.old second.old j) detail.now j first.old)
-        × (second.new ≡ turn_second (finished binary64 how) binary64 f low.now high.now (line_held deepest.now first.old second.old j) detail.now j second.old) }
+    ensures { (first.new ≡ turn_first_by (finished binary64 how) binary64 f low.now high.now (line_held deepest.now first.old second.old j) detail.now j first.old)
+        × (second.new ≡ turn_second_by (finished binary64 how) binary64 f low.now high.now (line_held deepest.now first.old second.old j) detail.now j second.old) }
 {
     if j == 0 {
         join_front(low, high, f, how, deepest, detail, first);
@@ -57,8 +57,8 @@ fn join_level<'a>(
     }
 }
 
-// Every level, from the deepest up.
-pub fn restore<'a>(
+// Every level, from the deepest up, with what `how` names done to each joined line.
+pub fn restore_by<'a>(
     low: &'a [f64],
     high: &'a [f64],
     f: usize,
@@ -94,6 +94,24 @@ pub fn restore<'a>(
         );
         j += 1;
     }
+}
+
+// The same, with nothing done to a joined line.
+pub fn restore<'a>(
+    low: &'a [f64],
+    high: &'a [f64],
+    f: usize,
+    packed: &[f64],
+    n: usize,
+    levels: usize,
+    first: &mut [f64],
+    second: &mut [f64],
+)
+    requires { Lent f (length low.now) (length high.now) × Restoring n f levels (length packed.now) (length first.old) (length second.old) }
+    ensures { (first.new ≡ first_after binary64 f low.now high.now packed.now n levels levels first.old)
+        × (second.new ≡ second_after binary64 f low.now high.now packed.now n levels levels second.old) }
+{
+    restore_by(low, high, f, Finish::Kept, packed, n, levels, first, second);
 }
 
 // The front of the buffer that holds the line: of the second after an even number of joins, of the first after an odd one.

@@ -33,7 +33,7 @@ pub record GivesAsBefore (bank : Bank) (l h : List Float) (f : ℕ) (b : Border)
   pub restore_levels : {packed : List Float} {n levels : ℕ} {first second : List Float} {r : Levels} {first' second' : List Float}
       → Restorings.Restored bank.lowback bank.highback bank.taps packed n levels first second r first' second'
       → Restorings.Restored l h f packed n levels first second r first' second'
-  pub restored_line : {packed : List Float} {n levels : ℕ} {first second part : Bor (List Float)}
+  pub restored_line : {packed : List Float} {n levels : ℕ} {first second part : MutBor (List Float)}
       → Restorings.HandedOut bank.lowback bank.highback bank.taps packed n levels first second part
       → Restorings.HandedOut l h f packed n levels first second part
   pub analyse_plane : {plane : List Float} {width height : ℕ} {ll lh hl hh scratch : List Float} {r : Planes} {ll' lh' hl' hh' scratch' : List Float}

@@ -4,4 +4,4 @@ use Rattle.agreeing.specs.Room.{agreed_part}
 use Rattle.agree_run.proofs.respond.Goals as goal
 
 pub write_printed-requires : goal.write_printed-requires
-write_printed-requires c = let a = c.agree-printed in omega (arith, agreed_part a.ensures c.requires, a.auto.1.0)
+write_printed-requires c = let a = c.agree-printed in omega (arith, agreed_part a.ensures c.requires, a.auto.out)

@@ -4,4 +4,4 @@ use Rattle.answering.specs.Room.{printed_part}
 use Rattle.bands_run.proofs.respond.Goals as goal
 
 pub write_printed-requires : goal.write_printed-requires
-write_printed-requires c = let a = c.answer-printed in omega (arith, printed_part a.ensures c.requires, a.auto.1.0)
+write_printed-requires c = let a = c.answer-printed in omega (arith, printed_part a.ensures c.requires, a.auto.out)

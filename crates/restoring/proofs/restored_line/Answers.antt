@@ -1,15 +1,12 @@
 -- `restoring::restored_line` meets its contract: where restoring is refused the part is empty, and else it is the front of the buffer that holds the line.
-use lib.Ieee.{binary64}
 use lib.ListN.{length}
-use mathlib.Core.Path.{◌∙◌, ap, refl, sym}
+use lib.Seq.{length-take-le}
+use mathlib.Core.Path.{◌∙◌, refl, sym}
 use native.Mathlib.Omega.{arith}
-use Rattle.numbers.specs.Tests.{refused, renewed}
 use Rattle.bank.specs.Tested.{counted_all}
+use Rattle.packed.specs.Tested.{first_line}
 use Rattle.packed.specs.Lengths.{levels_of}
-use Rattle.packed.specs.Answers.{number_of}
-use Rattle.packed.specs.Tested.{done_alone}
-use Rattle.restoring.specs.Lines.{restored}
-use Rattle.restoring.specs.Tested.{restoring, none_out, line_out, fronted}
+use Rattle.restoring.specs.Tested.{restoring, none_handed, first_handed, second_handed}
 use Rattle.restoring.specs.Works.{Restoring}
 use borrow.Author.Rules.{rules}
 use Rattle.restoring.proofs.restored_line.Goals as goal
@@ -19,12 +16,8 @@ pub restore_levels-answer-requires : goal.restore_levels-answer-requires
 restore_levels-answer-requires c = counted_all (search rules) (search rules)
 
 pub returns-in_default : goal.returns-in_default
-returns-in_default c = let a = c.args in
-    let e = c.restore_levels-answer.ensures.answer in
-    let h = c.in_default.not-Done in
-    let o = none_out _ (restored binary64 a.bank.taps a.bank.lowback a.bank.highback a.packed.now a.n (levels_of a.levels)) a.levels a.first a.second
-    (refused number_of done_alone _ (λ q. h (e ∙ q))) in
-    record { handed = o.0; lies = o.1 }
+returns-in_default c = let r = c.restore_levels-answer.result in
+    none_handed r c.restore_levels-answer.ensures.answer c.in_default.not-Done refl refl
 
 -- every test passed
 all : (c : In-Done) → let a = c.args in
@@ -33,15 +26,22 @@ all c =
     let a = c.args in
     restoring a.n a.bank.taps a.levels (levels_of a.levels) _ _ _ refl (sym c.restore_levels-answer.ensures.answer ∙ c.in-Done.is)
 
-pub front-requires : goal.front-requires
-front-requires c = let a = c.args in
-    let f = fronted a.levels (all (goal.at.front-requires c).In-Done) in
-    record { ready = f.ready; room = omega (arith, f.room, c.restore_levels-answer.auto.first); space = omega (arith, f.space, c.restore_levels-answer.auto.second) }
+pub restoring_need-length-requires : goal.restoring_need-length-requires
+restoring_need-length-requires c = let a = c.args in
+    first_line {levels = a.levels} (record { sound = (all (goal.at.restoring_need-length-requires c).In-Done).packs.sound; long = (all (goal.at.restoring_need-length-requires c).In-Done).packs.long })
 
-pub returns : goal.returns
-returns c = let a = c.args in
-    let p = c.restore_levels-answer.ensures in
-    let z = c.in-Done.is in
-    let o = line_out (λ l. l) (λ l. refl) a.bank.lowback a.bank.highback a.bank.taps a.packed.now a.n a.levels a.first a.second (all (goal.at.returns c).In-Done)
-    (renewed _ _ (ap number_of z) p.firsts) (renewed _ _ (ap number_of z) p.seconds) (ap number_of (sym p.answer ∙ z)) c.front.ensures.numbers c.front.ensures.lies in
-    record { handed = o.0; lies = o.1 }
+pub slice_bounds-result-end-then-most-eq0 : goal.slice_bounds-result-end-then-most-eq0
+slice_bounds-result-end-then-most-eq0 c = sym (length-take-le _ _ (omega (arith, c.restoring_need-length.ensures, (all (goal.at.slice_bounds-result-end-then-most-eq0 c).In-Done).space, c.restore_levels-answer.auto.second)))
+
+pub slice_bounds-result-end-else-most-eq0 : goal.slice_bounds-result-end-else-most-eq0
+slice_bounds-result-end-else-most-eq0 c = sym (length-take-le _ _ (omega (arith, c.restoring_need-length.ensures, (all (goal.at.slice_bounds-result-end-else-most-eq0 c).In-Done).room, c.restore_levels-answer.auto.first)))
+
+pub returns-then-most-eq0 : goal.returns-then-most-eq0
+returns-then-most-eq0 c = let a = c.args in
+    second_handed a.bank.lowback a.bank.highback a.bank.taps a.packed.now a.n a.levels a.first a.second _ _ _ c.restore_levels-answer.result c.most.result _
+    c.restore_levels-answer.ensures c.in-Done.is c.most.ensures c.restoring_need-length.ensures (omega (arith, c.if-most-eq0.true)) refl refl
+
+pub returns-else-most-eq0 : goal.returns-else-most-eq0
+returns-else-most-eq0 c = let a = c.args in
+    first_handed a.bank.lowback a.bank.highback a.bank.taps a.packed.now a.n a.levels a.first a.second _ _ _ c.restore_levels-answer.result c.most.result _
+    c.restore_levels-answer.ensures c.in-Done.is c.most.ensures c.restoring_need-length.ensures (λ e. absurd (omega (arith, e, c.if-most-eq0.false))) refl refl

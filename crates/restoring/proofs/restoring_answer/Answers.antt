@@ -44,7 +44,6 @@ module _ (n f levels p a b need : ℕ) (e : held_of n f levels p ≡ Done) (q : 
       (sym (cond_false (ltb a (restoring_length n f)) (ScratchSize (restoring_length n f) a) _ (le-ltb a (restoring_length n f) (omega (arith, q, h)))
       ∙ cond_false (ltb b (restoring_length n f)) (ScratchSize (restoring_length n f) b) Done (le-ltb b (restoring_length n f) (omega (arith, q, k)))))
 
-
 pub returns-then-first-need : goal.returns-then-first-need
 returns-then-first-need c = let a = c.args in
     first_short a.n a.f a.levels a.packed a.first a.second c.restoring_need-need.result (held (goal.at.returns-then-first-need c).In-Done) c.restoring_need-need.ensures (omega (arith, c.if-first-need.true))

@@ -34,7 +34,6 @@ module _ (n f : ℕ) (s : Float) (levels p a b : ℕ) where
       unfolding answer_of
       all e = went_on Done _ e refl ∙ sym (cond_false (bad_taps f) (Refused answers.Taps) _ good ∙ cond_false (bad_divisor binary64 s) Divisor _ well)
 
-
 pub returns-then-bad_taps : goal.returns-then-bad_taps
 returns-then-bad_taps c = taps _ _ _ _ _ _ _ (sym c.bad_taps.ensures ∙ c.if-bad_taps.true)
 

@@ -9,7 +9,9 @@ use Rattle.packed.specs.Lengths.{levels_of}
 use Rattle.dividing.specs.Divisions.{divided}
 use Rattle.dividing.specs.Divisors.{length-divided}
 use Rattle.restoring.specs.Dividings.{number_of, restored_divided}
-use Rattle.restoring.specs.Tested.{restoring, divided_done, divided_refused, none_out, line_out, fronted}
+use Rattle.restoring.specs.Tested.{restoring}
+use Rattle.restoring.specs.Handed.{none_out, line_out, fronted}
+use Rattle.restoring.specs.TestedDivided.{divided_done, divided_refused}
 use Rattle.restoring.specs.Works.{Restoring}
 use borrow.Author.Rules.{rules}
 use Rattle.restoring.proofs.divided.divided_line.Goals as goal

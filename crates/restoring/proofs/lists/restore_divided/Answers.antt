@@ -4,7 +4,8 @@ use Rattle.numbers.specs.Tests.{kept, other}
 use Rattle.dividing.specs.Divisions.{divided}
 use Rattle.restoring.specs.Lines.{first_by, second_by}
 use Rattle.restoring.specs.Dividings.{number_of}
-use Rattle.restoring.specs.Tested.{restoring, divided_done, divided_refused}
+use Rattle.restoring.specs.Tested.{restoring}
+use Rattle.restoring.specs.TestedDivided.{divided_done, divided_refused}
 use lib.Ieee.{binary64}
 use mathlib.Core.Path.{◌∙◌, ap, refl, sym}
 use Rattle.restoring.proofs.lists.restore_divided.Goals as goal
@@ -14,14 +15,14 @@ returns-in_default c = let r = c.divided_answer-answer.result in
     let z = divided_refused _ _ _ _ _ _ _ c.divided_answer-answer.ensures c.in_default.not-Done in
     record { answer = c.divided_answer-answer.ensures; firsts = kept (number_of r) z _ _; seconds = kept (number_of r) z _ _ }
 
-pub restore-requires : goal.restore-requires
-restore-requires c = let r = restoring _ _ _ _ _ _ _ c.most.ensures (divided_done _ _ _ _ _ _ _ (sym c.divided_answer-answer.ensures ∙ c.in-Done.is)).1 in
+pub restore_by-requires : goal.restore_by-requires
+restore_by-requires c = let r = restoring _ _ _ _ _ _ _ c.most.ensures (divided_done _ _ _ _ _ _ _ (sym c.divided_answer-answer.ensures ∙ c.in-Done.is)).1 in
     (c.requires r.packs.sound.taps, r)
 
 pub returns : goal.returns
 returns c = let a = c.args in
     record {
       answer = sym c.in-Done.is ∙ c.divided_answer-answer.ensures;
-      firsts = c.restore.ensures.0 ∙ ap (λ (k : ℕ). first_by (divided binary64 a.s) binary64 a.f a.low.now a.high.now a.packed.now a.n k k a.first.now) c.most.ensures;
-      seconds = c.restore.ensures.1 ∙ ap (λ (k : ℕ). second_by (divided binary64 a.s) binary64 a.f a.low.now a.high.now a.packed.now a.n k k a.second.now) c.most.ensures;
+      firsts = c.restore_by.ensures.0 ∙ ap (λ (k : ℕ). first_by (divided binary64 a.s) binary64 a.f a.low.now a.high.now a.packed.now a.n k k a.first.now) c.most.ensures;
+      seconds = c.restore_by.ensures.1 ∙ ap (λ (k : ℕ). second_by (divided binary64 a.s) binary64 a.f a.low.now a.high.now a.packed.now a.n k k a.second.now) c.most.ensures;
     }

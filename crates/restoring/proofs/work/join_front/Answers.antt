@@ -1,7 +1,7 @@
 -- `restoring::work::join_front` meets its contract: the part of the output that is lent is as long as the joined line, which comes to stand there, and what is done to it is done there.
 use Rattle.dividing.specs.Divisions.{finished}
 use Rattle.dividing.specs.Divisors.{length-finished}
-use Rattle.restoring.specs.Steps.{headed_front}
+use Rattle.restoring.specs.Joins.{headed_front}
 use lib.Ieee.{Float, binary64}
 use lib.ListN.{length, take, drop, length-append}
 use lib.Seq.{length-take-le}

@@ -4,7 +4,7 @@ use Rattle.numbers.specs.Tests.{cond_true, cond_false}
 use Rattle.numbers.specs.Words.{headed}
 use Rattle.dividing.specs.Divisions.{finished}
 use Rattle.restoring.specs.Lines.{level_join}
-use Rattle.restoring.specs.Works.{line_held, turn_first, turn_second, Joining, Turning}
+use Rattle.restoring.specs.Works.{line_held, turn_first_by, turn_second_by, Joining, Turning}
 use Prim.Native.Nat.{ℕ, ◌%◌, ◌≤◌}
 use lib.Dec.{eqb}
 use lib.Ieee.{Float, binary64}
@@ -24,7 +24,7 @@ joining_second line t h = record { taps = t.taps; few = t.few; trimmed = h; grow
 module _ (done : List Float → List Float) (F : ℕ) (low high deepest detail x y : List Float) (j : ℕ) where
   abbrev Turned : List Float → List Float → Type 0
   Turned x' y' =
-      (x' ≡ turn_first done binary64 F low high (line_held deepest x y j) detail j x) × (y' ≡ turn_second done binary64 F low high (line_held deepest x y j) detail j y)
+      (x' ≡ turn_first_by done binary64 F low high (line_held deepest x y j) detail j x) × (y' ≡ turn_second_by done binary64 F low high (line_held deepest x y j) detail j y)
 
   into_first : {x' : List Float} (line : List Float) → j % 2 ≡ 0 → line ≡ line_held deepest x y j → x' ≡ headed (done (level_join binary64 F low high line detail)) x → Turned x' y
   into_first line e q h = (
@@ -46,7 +46,6 @@ module _ (done : List Float → List Float) (F : ℕ) (low high deepest detail x
 
   is_first : (j ≡ 0 → ⊥) → (j % 2 ≡ 0 → ⊥) → x ≡ line_held deepest x y j
   is_first n e = sym (cond_false (eqb j 0) deepest _ (ne_eqb j 0 n) ∙ cond_false (eqb (j % 2) 0) y x (ne_eqb (j % 2) 0 e))
-
 
 pub join_front-requires : goal.join_front-requires
 join_front-requires c = let d = c.requires in (d.0, joining _ d.1 (d.1.deep c.if-j-eq0.true))

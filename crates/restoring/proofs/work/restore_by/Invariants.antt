@@ -1,11 +1,11 @@
--- What each turn of `work::restore` keeps, and what falls with each.
+-- What each turn of `work::restore_by` keeps, and what falls with each.
 use Rattle.dividing.specs.Divisions.{finished}
 use Rattle.restoring.specs.Lines.{first_by, second_by}
 use Prim.Native.Nat.{◌-◌, ◌≤◌}
 use lib.Ieee.{binary64}
 use lib.ListN.{length}
 use mathlib.Core.Path.{◌≡◌}
-use Rattle.restoring.proofs.work.restore.Given as goal
+use Rattle.restoring.proofs.work.restore_by.Given as goal
 
 abbrev pub invariant-loop-j : goal.invariant-loop-j
 invariant-loop-j l = (l.j ≤ l.levels) × (length l.first ≡ length l.initial.first) × (length l.second ≡ length l.initial.second)
