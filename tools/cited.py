@@ -45,7 +45,9 @@ def headings(path, known):
 
 cites = [wrong for page in PAGES for wrong in citations(page)]
 known = re.findall(r'^## (.*)$', RULED.read_text(), re.M)
-sources = [path for folder in ('crates', 'docs', 'judge', 'tools') for path in sorted((ROOT / folder).rglob('*')) if path.is_file()]
+files = [path for folder in ('crates', 'docs', 'judge', 'tools') for path in sorted((ROOT / folder).rglob('*')) if path.is_file()]
+# crates/CRATE/out is what rt makes, with copies of what it checked
+sources = [path for path in files if path.relative_to(ROOT).parts[2:3] != ('out',)]
 named = [wrong for path in (*sources, ROOT / 'README.md') for wrong in headings(path, known)]
 lines = [(page, k, line) for page in SHORT for k, line in enumerate(page.read_text().split('\n'), 1)]
 faults = [wrong for wrong in (*cites, *named) if wrong]

@@ -10,8 +10,12 @@ import re
 import sys
 
 ROOT = pathlib.Path(__file__).resolve().parent.parent
-# what is no code: comments, texts, contracts and what only they name
-SILENT = re.compile(r'//[^\n]*|"[^"\n]*"|⌜[^⌝]*⌝|^ghost use [^\n]*', re.M)
+# what stands in braces, with braces in it that are three deep at most
+BRACES = r'\{[^{}]*\}'
+for _ in range(3):
+    BRACES = r'\{(?:[^{}]|%s)*\}' % BRACES
+# what is no code: comments, texts, clauses of contracts and what only they name
+SILENT = re.compile(r'//[^\n]*|"[^"\n]*"|\b(?:ghost|requires|ensures)\b[^{};\n]*%s' % BRACES)
 BY = re.compile(r'[/%]=?\s*(\w*)')
 CONSTANT = re.compile(r'\d|[A-Z][A-Z_]+\b')
 FLOATS = ROOT / 'crates/dividing/src/lib.rt'

@@ -4,10 +4,11 @@
     python3 tools/narrow.py            # fails where a file is not what is made
     python3 tools/narrow.py --write    # makes them
 
-The language has no generics, so that code over floats, and its proof, stands once for each width. The second is made: the items that ENTRIES
-reach and that have a width (a float, or a type that holds one), their proofs and the edits that EDITS names, each with the width exchanged.
-What has no width, answers and tests and lengths, is used from the wide crate, and so is every definition and law. tools/narrow/ has the edits
-that only a narrow crate can have. Nobody edits what is made."""
+Code over floats, and its proof, stands once for each width. The second is made: the items that ENTRIES reach and that have a width (a float,
+or a type that holds one), their proofs and the edits that EDITS names, each with the width exchanged. What has no width, answers and tests
+and lengths, is used from the wide crate, and so is every definition and law. tools/narrow/ has the edits that only a narrow crate can have.
+Nobody edits what is made."""
+import itertools
 import pathlib
 import re
 import sys
@@ -52,15 +53,19 @@ ENTRIES = [
 BESIDE = {'isferghul': [], 'questions': ['asking', 'bits', 'on_lines']}
 WORD = r'[A-Za-z_][A-Za-z_0-9]*'
 ITEM = re.compile(r'^(?:pub )?(?:extern "C" )?(?:fn|enum|struct|const) (%s)' % WORD)
+# a clause of a contract, with the lines below it that stand further in; what it names, and behind a dot a field or a variant
+CLAUSE = re.compile(r'^( *)(?:requires|ensures)\b.*(?:\n\1 .*)*', re.M)
+NAMED = re.compile(r'\.\w+|\[\]|[^\s(){}\[\].;,@]+')
 
 
 class Item:
-    """An item of a file, with the comment and the attribute in front of it."""
+    """An item of a file, with the comment and the attribute in front of it. What its contract alone names is of specs/, but for types."""
 
     def __init__(self, file, name, text):
         self.file, self.name, self.text = file, name, text
-        self.code = re.sub(r'//.*', '', text)
-        self.words = set(re.findall(WORD, self.code))
+        every = re.sub(r'//.*', '', text)
+        self.code = CLAUSE.sub('', every)
+        self.words = set(re.findall(WORD, self.code)) | set(re.findall(r'\b[A-Z]\w*', every))
         self.wide = 'f64' in self.words
         self.exported = 'extern "C"' in self.code
         self.by_hand = ''.join(file.module) in BESIDE.get(file.crate, [])
@@ -75,14 +80,14 @@ class Item:
 
 
 class File:
-    """A source file: its modules, what it uses, its items."""
+    """A source file: its attribute, its modules, what it uses, its items."""
 
     def __init__(self, every, crate, path):
         self.every, self.crate = every, crate
         self.module = [] if path.stem == 'lib' else [path.stem]
-        self.modules, self.ghosts, self.uses, self.items = [], [], [], []
+        self.attributes, self.modules, self.ghosts, self.uses, self.items = [], [], [], [], []
         front = []
-        lines = iter(path.read_text().splitlines())
+        lines = itertools.dropwhile(lambda line: line.startswith('//'), path.read_text().splitlines())
         for line in lines:
             start = ITEM.match(line)
             if start:
@@ -96,9 +101,16 @@ class File:
             elif line.startswith('ghost use '):
                 self.ghosts.append(line)
             elif line.startswith('use '):
-                self.uses.append(line[4:-1].split('::'))
-            elif line and (self.modules or self.ghosts or self.uses or self.items):
+                while not line.endswith(';'):
+                    line += next(lines).strip()
+                module, names = re.fullmatch(r'use ([^{]*)(?:\{(.*)\})?;', line).groups()
+                self.uses += [(module + name).split('::') for name in re.split(', ?', (names or '').rstrip(','))]
+            elif line.startswith('#!['):
+                self.attributes.append(line)
+            elif line.startswith(('//', '#[')):
                 front.append(line)
+            elif line:
+                sys.exit('%s: narrow.py knows no such item: %s' % (path.relative_to(CRATES), line))
         every.update({item.place(): item for item in self.items})
 
     def path_of(self, name):
@@ -133,30 +145,23 @@ def exchanged(text):
     return re.sub(r'(?<![A-Za-z])(f|binary)64(?![A-Za-z0-9])', r'\g<1>32', text)
 
 
-def mentioned(name, text):
-    """Whether a contract has a name; an operator is found by its sign."""
-    sign = name.strip('_')
-    return sign in text if re.fullmatch(r'\W+', sign) else re.search(r"(?<![\w′-])%s(?![\w′-])" % re.escape(name), text) is not None
-
-
-def in_wide(crate, text):
-    """Definitions and laws are the wide crate's."""
-    return text.replace('Rattle·%s·specs.specs.' % crate, 'Rattle·%s.specs.' % crate)
-
-
 def of_narrow(crate, path, text):
-    """A proof is of the narrow function; what it cites of others' proofs, as of an answer's cases, is the wide crate's."""
-    own, kept = ('Rattle·%s%s·proofs.proofs.' % (crate, end) + '.'.join(path) + '.' for end in ('', SUFFIX))
-    text = text.replace(own, kept).replace('Rattle·%s·proofs.proofs.' % crate, 'Rattle·%s.proofs.' % crate)
-    return text.replace('`%s::' % crate, '`%s%s::' % (crate, SUFFIX))
+    """A proof is of the narrow function; what it cites of others' proofs is the wide crate's, as definitions and laws are."""
+    own, kept = ('Rattle.%s%s.proofs.%s.' % (crate, end, '.'.join(path)) for end in ('', SUFFIX))
+    return text.replace(own, kept).replace('`%s::' % crate, '`%s%s::' % (crate, SUFFIX))
 
 
-def ghost(line, contracts):
+def mentioned(name, words):
+    """Whether a contract has a name, that of `as` where it has one; an operator is found by its signs."""
+    return words.issuperset(sign for sign in name.split(' as ')[-1].split('◌') if sign)
+
+
+def ghost(line, words):
     """A use of definitions, with the names that a contract has."""
-    if ' as ' in line:
-        return [line] if mentioned(line[:-1].split(' as ')[1], contracts) else []
+    if not line.endswith('};'):
+        return [line] if mentioned(line[:-1], words) else []
     front, names = re.fullmatch(r'(.*\.)\{(.*)\};', line).groups()
-    names = [name for name in names.split(', ') if mentioned(name, contracts)]
+    names = [name for name in names.split(', ') if mentioned(name, words)]
     return [front + '{%s};' % ', '.join(names)] if names else []
 
 
@@ -173,14 +178,16 @@ def use(file, name, items):
 
 def uses(file, items):
     """What narrow items use."""
-    found = set()
+    found = {}
     for name in set().union(*(item.words for item in items)):
         direct = file.found(name)
         behind = {other for item in items for other in item.named() if file.path_of(name) == other.place().split('::')[:-1]}
         here = direct in file.items
         if [file.crate, *file.module, name] != file.path_of(name) or here and not direct.wide:
-            found.add('::'.join(use(file, name, [direct] if direct else behind)))
-    return ['use %s;' % path for path in sorted(found, key=lambda path: (not path.startswith('crate::'), path))]
+            *module, last = use(file, name, [direct] if direct else behind)
+            found.setdefault('::'.join(module), []).append(last)
+    paths = ['%s::%s' % (module, '{%s}' % ', '.join(sorted(names)) if names[1:] else names[0]) for module, names in found.items()]
+    return ['use %s;' % path for path in sorted(paths, key=lambda path: (not path.startswith('crate::'), path))]
 
 
 def source(file, taken):
@@ -188,37 +195,37 @@ def source(file, taken):
     items = [item for item in file.items if item in taken]
     modules = [line for line in file.modules if any(item.file.module == [line.split()[-1][:-1]] for item in taken if item.file.crate == file.crate)]
     body = exchanged('\n\n'.join(item.text for item in items))
-    contracts = '\n'.join(re.findall(r'⌜.*?⌝', body, re.S))
-    top = ['// crates/%s/src/%s.rt of 32-bit floats, made by tools/narrow.py.' % (file.crate, ''.join(file.module) or 'lib'), *modules]
-    cited = [exchanged(line if file.crate in BESIDE else in_wide(file.crate, line)) for line in file.ghosts]
-    names = [line for wide in cited for line in ghost(wide, contracts)] + (uses(file, items) if items else [])
-    parts = [top, names] if modules else [top + names]
-    return '\n\n'.join([*('\n'.join(part) for part in parts if part), *([body] if body else [])]) + '\n'
+    words = {word for clause in CLAUSE.finditer(body) for word in NAMED.findall(clause[0])}
+    top = ['// crates/%s/src/%s.rt of 32-bit floats, made by tools/narrow.py.' % (file.crate, ''.join(file.module) or 'lib'), *file.attributes]
+    ghosts = [line for wide in file.ghosts for line in ghost(exchanged(wide), words)]
+    parts = [part for part in (modules, ghosts, uses(file, items)) if part]
+    # the first of them stands right below the comment, but not below an attribute
+    if parts and not file.attributes:
+        top += parts.pop(0)
+    return '\n\n'.join([*('\n'.join(part) for part in [top, *parts]), *([body] if body else [])]) + '\n'
 
 
 def suffixed(text, items):
     """The names of exports have the suffix, in code and in proofs."""
     for item in items:
         text = re.sub(r'\b%s\b' % item.name, item.name + SUFFIX, text)
-        text = text.replace(item.name.replace('_', '-') + '-spec', (item.name + SUFFIX).replace('_', '-') + '-spec')
     return text
 
 
 def made_of(file, taken, exports):
-    """The narrow file of a wide one, and the proof of each of its functions, by their places in the narrow crate."""
+    """The narrow file of a wide one, and the proof files that its functions have, by their places in the narrow crate."""
     beside = file.crate in BESIDE
     there = CRATES / (file.crate if beside else file.crate + SUFFIX)
     module = [name + SUFFIX if beside else name for name in file.module]
     yield there.joinpath('src', *module or ['lib']).with_suffix('.rt'), suffixed(source(file, taken), exports)
     for item in file.items:
-        wide = CRATES.joinpath(file.crate, 'proofs', *file.module, item.name, 'Proof.antt')
-        if item in taken and wide.exists():
+        for wide in CRATES.joinpath(file.crate, 'proofs', *file.module, item.name).glob('*.antt') if item in taken else []:
             text = exchanged(wide.read_text())
             if beside:
                 text = suffixed(text.replace('.proofs.%s.' % file.module[0], '.proofs.%s.' % module[0]), exports)
             else:
-                text = of_narrow(file.crate, [*file.module, item.name], in_wide(file.crate, text))
-            yield there.joinpath('proofs', *module, item.name + SUFFIX if item.exported else item.name, 'Proof.antt'), text
+                text = of_narrow(file.crate, [*file.module, item.name], text)
+            yield there.joinpath('proofs', *module, item.name + SUFFIX if item.exported else item.name, wide.name), text
 
 
 def made():
@@ -238,9 +245,10 @@ def made():
 
 def main():
     texts = made()
-    kept = {path for crate in EDITS for path in (CRATES / (crate + SUFFIX)).rglob('*') if path.is_file()}
+    # out/ of a crate is what rt makes
+    kept = {path for crate in EDITS for path in (CRATES / (crate + SUFFIX)).rglob('*') if path.is_file() and path.relative_to(CRATES).parts[1] != 'out'}
     for crate, files in BESIDE.items():
-        found = [*(CRATES / crate / 'src').glob('*%s.rt' % SUFFIX), *(CRATES / crate / 'proofs').glob('*%s/*/Proof.antt' % SUFFIX)]
+        found = [*(CRATES / crate / 'src').glob('*%s.rt' % SUFFIX), *(CRATES / crate / 'proofs').glob('*%s/*/*.antt' % SUFFIX)]
         by_hand = {name + SUFFIX for name in files}
         kept |= {path for path in found if not by_hand & {path.stem, path.parent.parent.name}}
     if sys.argv[1:] == ['--write']:
