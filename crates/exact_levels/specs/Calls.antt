@@ -19,7 +19,7 @@ use Rattle.restoring.specs.declared.divided.Divided.{Divided}
 use Rattle.restoring.specs.declared.divided.Divided.TheVariants as dividing
 use Rattle.restoring.specs.Lines.{joined_by, first_by, second_by}
 use Rattle.restoring.specs.Dividings as Dividings
-use Rattle.restoring.specs.Steps.{whole_front}
+use Rattle.restoring.specs.Joins.{whole_front}
 use Rattle.exact_levels.specs.declared.LevelsBack.{LevelsBack}
 use Rattle.exact_levels.specs.declared.LevelsBack.TheVariants as way
 use Rattle.exact_levels.specs.Through.{ThroughPremises, Regained}

@@ -20,7 +20,7 @@ use Rattle.restoring.specs.declared.divided.Divided.{Divided}
 use Rattle.restoring.specs.declared.divided.Divided.TheVariants as dividing
 use Rattle.restoring.specs.Restorings as Restorings
 use Rattle.restoring.specs.Dividings as Dividings
-use Rattle.restoring.specs.Tested.{divided_refused, divided_alone}
+use Rattle.restoring.specs.TestedDivided.{divided_refused, divided_alone}
 use Rattle.exact_levels.specs.declared.LevelsBack.TheVariants as way
 use Rattle.exact_levels.specs.Backs.{number_of, answer_of, Ruled}
 

@@ -45,19 +45,20 @@ LevelsTold border low high line levels packed scratch words r packed' scratch' w
 abbrev pub holder : ℕ → ℕ
 holder levels = cond (eqb (levels_of levels % 2) 0) 2 1
 
--- which and how long the line is are carried where restoring is done, of any answer with its number and values
-abbrev pub back_from : {A : Type 0} → (A → ℕ) → (A → List ℕ) → ℕ → ℕ → ℕ → A → List ℕ
-back_from number values n f levels a = when_done (number a) (holder levels ∷ restoring_length n f ∷ []) (values a)
-
+-- which and how long the line is are carried where restoring is done
 abbrev pub values_back : ℕ → ℕ → ℕ → Levels → List ℕ
-values_back = back_from number_of values_of
+values_back n f levels a = when_done (number_of a) (holder levels ∷ restoring_length n f ∷ []) (values_of a)
 
 abbrev pub RestoringTold : List Float → List Float → List Float → ℕ → ℕ → List Float → List Float → List ℕ → ℕ → List Float → List Float → List ℕ → Type 0
 RestoringTold low high packed n levels first second words r first' second' words' =
     let f = taps_of (length low) (length high) in
     ToldOf number_of (values_back n f levels) (λ a. Restored low high f packed n levels first second a first' second') words r words'
 
--- the same, each joined line divided by s
+-- ---- the same, each joined line divided by s
+-- what is carried, of any answer with its number and values
+abbrev pub back_from : {A : Type 0} → (A → ℕ) → (A → List ℕ) → ℕ → ℕ → ℕ → A → List ℕ
+back_from number values n f levels a = when_done (number a) (holder levels ∷ restoring_length n f ∷ []) (values a)
+
 abbrev pub DividingTold : List Float → List Float → Float → List Float → ℕ → ℕ → List Float → List Float → List ℕ → ℕ → List Float → List Float → List ℕ → Type 0
 DividingTold low high s packed n levels first second words r first' second' words' =
     let f = taps_of (length low) (length high) in

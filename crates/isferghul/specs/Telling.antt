@@ -16,17 +16,17 @@ use Rattle.restoring.specs.declared.divided.Divided.TheVariants.{Done, Divisor, 
 use Rattle.restoring.specs.Dividings as Dividings
 use Rattle.telling.specs.Told.{Told, carried_from}
 use Rattle.telling.specs.Telling.{retold}
-use Rattle.isferghul.specs.Levels.{holder, back_from}
+use Rattle.isferghul.specs.Levels.{holder, back_from, values_back}
 
--- restoring that is refused carries what its answer does; done, where the answer carries nothing, the buffer's number and the length
+-- either kind of restoring that is refused carries what its answer does; done, where the answer carries nothing, the buffer's number and the length
 module _ {A : Type 0} (number : A → ℕ) (values : A → List ℕ) (bare : (a : A) → number a ≡ 0 → values a ≡ []) (n f levels : ℕ) (a : A) {k : ℕ} {words words' : List ℕ}
     (t : Told (number a) (values a) words k words') where
-  pub back_refused : (k ≡ 0 → ⊥) → Told (number a) (back_from number values n f levels a) words k words'
-  back_refused h = retold refl (kept (number a) (omega (arith, t.given, h)) _ (values a)) t
+  pub back_refused_from : (k ≡ 0 → ⊥) → Told (number a) (back_from number values n f levels a) words k words'
+  back_refused_from h = retold refl (kept (number a) (omega (arith, t.given, h)) _ (values a)) t
 
-  pub back_done : {w m r : ℕ} {words'' : List ℕ} → k ≡ 0 → w ≡ holder levels → m ≡ restoring_length n f → Told 0 (w ∷ m ∷ []) words' r words''
+  pub back_done_from : {w m r : ℕ} {words'' : List ℕ} → k ≡ 0 → w ≡ holder levels → m ≡ restoring_length n f → Told 0 (w ∷ m ∷ []) words' r words''
       → Told (number a) (back_from number values n f levels a) words r words''
-  back_done z ew em u =
+  back_done_from z ew em u =
       let zero : number a ≡ 0 = sym t.given ∙ z in
       let same : words' ≡ words = t.carried ∙ ap (λ (v : List ℕ). carried_from 0 v words) (bare a zero) in
       retold (sym zero) (sym (ap (λ (j : ℕ). when_done j (holder levels ∷ restoring_length n f ∷ []) (values a)) zero)) (record { given = u.given; carried = (cc) })
@@ -34,6 +34,15 @@ module _ {A : Type 0} (number : A → ℕ) (values : A → List ℕ) (bare : (a 
 -- where the number is 0 neither kind of restoring carries anything
 pub levels_bare : (a : Levels) → number_of a ≡ 0 → values_of a ≡ []
 levels_bare a z = ap values_of (done_alone a z)
+
+-- restoring that is refused carries what its answer does; done, the buffer's number and the length
+module _ (n f levels : ℕ) (a : Levels) {number : ℕ} {words words' : List ℕ} (t : Told (number_of a) (values_of a) words number words') where
+  pub back_refused : (number ≡ 0 → ⊥) → Told (number_of a) (values_back n f levels a) words number words'
+  back_refused h = back_refused_from number_of values_of levels_bare n f levels a t h
+
+  pub back_done : {w m r : ℕ} {words'' : List ℕ} → number ≡ 0 → w ≡ holder levels → m ≡ restoring_length n f → Told 0 (w ∷ m ∷ []) words' r words''
+      → Told (number_of a) (values_back n f levels a) words r words''
+  back_done z ew em u = back_done_from number_of values_of levels_bare n f levels a t z ew em u
 
 pub divided_bare : (a : Divided) → Dividings.number_of a ≡ 0 → Dividings.values_of a ≡ []
 divided_bare Done z = refl

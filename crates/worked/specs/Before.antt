@@ -1,6 +1,6 @@
 -- What each entry that takes a bank gave when a bank held one pair of taps: its promise by that pair, which admits one outcome. Definitions only.
 use Rattle.std.specs.Prelude.{List, ℕ, length, Float}
-use Rattle.std.specs.Borrow.{Bor}
+use Rattle.std.specs.Borrow.{MutBor}
 use Rattle.std.specs.Float.{binary64}
 use Rattle.numbers.specs.Words.{at, when_done}
 use Rattle.border.specs.declared.Border.{Border}

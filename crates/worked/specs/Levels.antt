@@ -17,7 +17,7 @@ use Rattle.packed.specs.Lengths.{line_after, too_short, details_to, level_start,
 use Rattle.packed.specs.Answers.{asked_of, held_of}
 use Rattle.levels.specs.Analyses.{answer_of}
 use Rattle.levels.specs.Lines.{line_of, details_of, packed_line}
-use Rattle.restoring.specs.Lines.{joined_by, restored}
+use Rattle.restoring.specs.Lines.{restored_after, restored}
 
 -- P2's line, analysed over one level, is refused as it is without levels
 p2_one : answer_of 3 4 1 6 14 ≡ MinFilterSize 3 4
@@ -53,5 +53,5 @@ two_levels = refl
 
 -- and back: 6 14 20 20, trimmed to 6 14 20, which with -1 -1 0 gives 5 7 13 15 20 20
 two_back : restored binary64 2 sums differences packed 5 2 ≡ floats (pos 5 ∷ pos 7 ∷ pos 13 ∷ pos 15 ∷ pos 20 ∷ pos 20 ∷ [])
-unfolding joined_by line_after details_to synthesised joined tab of_int add mul
+unfolding restored_after line_after details_to synthesised joined tab of_int add mul
 two_back = refl

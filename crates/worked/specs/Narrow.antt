@@ -112,4 +112,4 @@ sums_rounded = (through (fin false 1 (pos 24)) refl refl, through (fin false 838
 -- -16785408 + 4097·4097: binary32 rounds the product to 16785408 before it is added; unrounded the sum would be 1
 products_rounded : (sums binary32 (negsuc 16785407) (pos 4097) (pos 4097) (pos 0) (pos 0) ≡ thrice (pos 0)) × (sums binary64 (negsuc 16785407) (pos 4097) (pos 4097) (pos 0) (pos 0) ≡ thrice (pos 1))
 unfolding dot joined convolved of_int add mul
-products_rounded = (refl, refl)
+products_rounded = (refl, through (fin false 1 (pos 0)) refl refl)

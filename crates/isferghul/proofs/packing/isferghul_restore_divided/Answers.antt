@@ -3,9 +3,10 @@ use Rattle.bank.specs.Pairs.{counted_lists}
 use Rattle.packed.specs.Lengths.{levels_of}
 use Rattle.packed.specs.Tested.{first_line}
 use Rattle.restoring.specs.Dividings.{number_of, values_of}
-use Rattle.restoring.specs.Tested.{restoring, divided_done, divided_alone}
+use Rattle.restoring.specs.Tested.{restoring}
+use Rattle.restoring.specs.TestedDivided.{divided_done, divided_alone}
 use Rattle.telling.specs.Telling.{told_of}
-use Rattle.isferghul.specs.Telling.{divided_bare, back_refused, back_done}
+use Rattle.isferghul.specs.Telling.{divided_bare, back_refused_from, back_done_from}
 use mathlib.Core.Path.{refl, sym, ◌∙◌}
 use Rattle.isferghul.proofs.packing.isferghul_restore_divided.Goals as goal
 
@@ -14,7 +15,7 @@ restore_divided-answer-requires c = counted_lists _ _ c.taps_of-f.ensures
 
 pub returns-then-number-ne0 : goal.returns-then-number-ne0
 returns-then-number-ne0 c = let a = c.args in
-    rw (← c.taps_of-f.ensures) (told_of c.restore_divided-answer.result c.restore_divided-answer.ensures (back_refused number_of values_of divided_bare a.n c.taps_of-f.result a.levels c.restore_divided-answer.result c.divided-number.ensures c.if-number-ne0.true))
+    rw (← c.taps_of-f.ensures) (told_of c.restore_divided-answer.result c.restore_divided-answer.ensures (back_refused_from number_of values_of divided_bare a.n c.taps_of-f.result a.levels c.restore_divided-answer.result c.divided-number.ensures c.if-number-ne0.true))
 
 pub restoring_need-requires : goal.restoring_need-requires
 restoring_need-requires c = let a = c.args in
@@ -23,4 +24,4 @@ restoring_need-requires c = let a = c.args in
 
 pub returns : goal.returns
 returns c = let a = c.args in
-    rw (← c.taps_of-f.ensures) (told_of c.restore_divided-answer.result c.restore_divided-answer.ensures (back_done number_of values_of divided_bare a.n c.taps_of-f.result a.levels c.restore_divided-answer.result c.divided-number.ensures c.if-number-ne0.false c.holder_of.ensures c.restoring_need.ensures c.two.ensures))
+    rw (← c.taps_of-f.ensures) (told_of c.restore_divided-answer.result c.restore_divided-answer.ensures (back_done_from number_of values_of divided_bare a.n c.taps_of-f.result a.levels c.restore_divided-answer.result c.divided-number.ensures c.if-number-ne0.false c.holder_of.ensures c.restoring_need.ensures c.two.ensures))

@@ -5,7 +5,7 @@ use Rattle.packed.specs.Answers.{number_of, values_of}
 use Rattle.packed.specs.Tested.{done_alone, first_line}
 use Rattle.restoring.specs.Tested.{restoring}
 use Rattle.telling.specs.Telling.{told_of}
-use Rattle.isferghul.specs.Telling.{levels_bare, back_refused, back_done}
+use Rattle.isferghul.specs.Telling.{back_refused, back_done}
 use mathlib.Core.Path.{refl, sym, ◌∙◌}
 use Rattle.isferghul.proofs.packing.isferghul_restore_levels.Goals as goal
 
@@ -14,7 +14,7 @@ restore_levels-answer-requires c = counted_lists _ _ c.taps_of-f.ensures
 
 pub returns-then-number-ne0 : goal.returns-then-number-ne0
 returns-then-number-ne0 c = let a = c.args in
-    rw (← c.taps_of-f.ensures) (told_of c.restore_levels-answer.result c.restore_levels-answer.ensures (back_refused number_of values_of levels_bare a.n c.taps_of-f.result a.levels c.restore_levels-answer.result c.levels-number.ensures c.if-number-ne0.true))
+    rw (← c.taps_of-f.ensures) (told_of c.restore_levels-answer.result c.restore_levels-answer.ensures (back_refused a.n c.taps_of-f.result a.levels c.restore_levels-answer.result c.levels-number.ensures c.if-number-ne0.true))
 
 pub restoring_need-requires : goal.restoring_need-requires
 restoring_need-requires c = let a = c.args in
@@ -23,4 +23,4 @@ restoring_need-requires c = let a = c.args in
 
 pub returns : goal.returns
 returns c = let a = c.args in
-    rw (← c.taps_of-f.ensures) (told_of c.restore_levels-answer.result c.restore_levels-answer.ensures (back_done number_of values_of levels_bare a.n c.taps_of-f.result a.levels c.restore_levels-answer.result c.levels-number.ensures c.if-number-ne0.false c.holder_of.ensures c.restoring_need.ensures c.two.ensures))
+    rw (← c.taps_of-f.ensures) (told_of c.restore_levels-answer.result c.restore_levels-answer.ensures (back_done a.n c.taps_of-f.result a.levels c.restore_levels-answer.result c.levels-number.ensures c.if-number-ne0.false c.holder_of.ensures c.restoring_need.ensures c.two.ensures))
