@@ -1,4 +1,4 @@
-/* Isferghul: a wavelet filter bank for lines and planes of 64-bit floats, and for lines of 32-bit floats. Link with libisferghul.a (x86-64).
+/* Isferghul: a wavelet filter bank for lines and planes of 64-bit floats, and for lines of 32-bit floats. Link with libisferghul.a (x86-64, from v2 on), which tools/archive makes.
  *
  * Every function answers for every input and always returns. It gives a number back: 0 is done, 27 is the other answer of comparing, any other is a refusal:
  *
