@@ -5,7 +5,7 @@ use bands_run::{INPUT, OUTPUT};
 use parting::finding::parting;
 use printing::Printing;
 use std::env;
-use std::fd::AsRawFd;
+use std::os::fd::AsRawFd;
 use std::fs::File;
 
 // No descriptor is this.

@@ -3,8 +3,7 @@ ghost use Rattle.isferghul.specs.Levels.{PackedLengthTold, LevelsScratchTold, Re
 
 use level_telling::told;
 
-#[unsafe(no_mangle)]
-pub extern "C" fn isferghul_packed_length(
+pub fn isferghul_packed_length(
     n: usize,
     f: usize,
     levels: usize,
@@ -15,8 +14,7 @@ pub extern "C" fn isferghul_packed_length(
     told::level_size(level_sizes::packed_length(n, f, levels), carried)
 }
 
-#[unsafe(no_mangle)]
-pub extern "C" fn isferghul_levels_scratch(
+pub fn isferghul_levels_scratch(
     n: usize,
     f: usize,
     levels: usize,
@@ -27,8 +25,7 @@ pub extern "C" fn isferghul_levels_scratch(
     told::level_size(level_sizes::levels_scratch(n, f, levels), carried)
 }
 
-#[unsafe(no_mangle)]
-pub extern "C" fn isferghul_restoring_length(
+pub fn isferghul_restoring_length(
     n: usize,
     f: usize,
     levels: usize,
@@ -39,15 +36,13 @@ pub extern "C" fn isferghul_restoring_length(
     told::level_size(level_sizes::restoring_length(n, f, levels), carried)
 }
 
-#[unsafe(no_mangle)]
-pub extern "C" fn isferghul_most_levels(n: usize, f: usize, carried: &mut [usize; 2]) -> u64
+pub fn isferghul_most_levels(n: usize, f: usize, carried: &mut [usize; 2]) -> u64
     ensures { MostLevelsTold n f carried.old result carried.new }
 {
     told::level_size(level_sizes::most_levels(n, f), carried)
 }
 
-#[unsafe(no_mangle)]
-pub extern "C" fn isferghul_level_part(
+pub fn isferghul_level_part(
     n: usize,
     f: usize,
     levels: usize,

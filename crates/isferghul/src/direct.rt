@@ -9,8 +9,7 @@ use line_telling::told;
 use telling::borders::{border_of, no_border};
 use telling::told::one;
 
-#[unsafe(no_mangle)]
-pub extern "C" fn isferghul_analyse_directly<'a>(
+pub fn isferghul_analyse_directly<'a>(
     border: usize,
     low: &'a [f64],
     high: &'a [f64],
@@ -32,8 +31,7 @@ pub extern "C" fn isferghul_analyse_directly<'a>(
 }
 
 // No border: synthesis reads none.
-#[unsafe(no_mangle)]
-pub extern "C" fn isferghul_synthesise_directly<'a>(
+pub fn isferghul_synthesise_directly<'a>(
     low: &'a [f64],
     high: &'a [f64],
     approx: &[f64],

@@ -10,8 +10,7 @@ use synthesis::lists::synthesise;
 use telling::borders::{border_of, no_border};
 use telling::told::one;
 
-#[unsafe(no_mangle)]
-pub extern "C" fn isferghul_analyse<'a>(
+pub fn isferghul_analyse<'a>(
     border: usize,
     low: &'a [f64],
     high: &'a [f64],
@@ -34,8 +33,7 @@ pub extern "C" fn isferghul_analyse<'a>(
 }
 
 // No border: synthesis reads none.
-#[unsafe(no_mangle)]
-pub extern "C" fn isferghul_synthesise<'a>(
+pub fn isferghul_synthesise<'a>(
     low: &'a [f64],
     high: &'a [f64],
     approx: &[f64],
@@ -50,8 +48,7 @@ pub extern "C" fn isferghul_synthesise<'a>(
     told::synthesis(answer, carried)
 }
 
-#[unsafe(no_mangle)]
-pub extern "C" fn isferghul_convolve(
+pub fn isferghul_convolve(
     border: usize,
     line: &[f64],
     out: &mut [f64],

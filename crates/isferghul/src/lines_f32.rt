@@ -10,8 +10,7 @@ use synthesis_f32::lists::synthesise;
 use telling::borders::{border_of, no_border};
 use telling::told::one;
 
-#[unsafe(no_mangle)]
-pub extern "C" fn isferghul_analyse_f32<'a>(
+pub fn isferghul_analyse_f32<'a>(
     border: usize,
     low: &'a [f32],
     high: &'a [f32],
@@ -34,8 +33,7 @@ pub extern "C" fn isferghul_analyse_f32<'a>(
 }
 
 // No border: synthesis reads none.
-#[unsafe(no_mangle)]
-pub extern "C" fn isferghul_synthesise_f32<'a>(
+pub fn isferghul_synthesise_f32<'a>(
     low: &'a [f32],
     high: &'a [f32],
     approx: &[f32],
@@ -50,8 +48,7 @@ pub extern "C" fn isferghul_synthesise_f32<'a>(
     told::synthesis(answer, carried)
 }
 
-#[unsafe(no_mangle)]
-pub extern "C" fn isferghul_convolve_f32(
+pub fn isferghul_convolve_f32(
     border: usize,
     line: &[f32],
     out: &mut [f32],

@@ -11,8 +11,7 @@ use restoring::lists::{restore_divided, restore_levels};
 use telling::borders::{border_of, no_border};
 use telling::told::{one, two};
 
-#[unsafe(no_mangle)]
-pub extern "C" fn isferghul_analyse_levels<'a>(
+pub fn isferghul_analyse_levels<'a>(
     border: usize,
     low: &'a [f64],
     high: &'a [f64],
@@ -45,8 +44,7 @@ fn holder_of(levels: usize) -> usize
 }
 
 // No border: restoring reads none. Which buffer holds the line and how long it is are carried.
-#[unsafe(no_mangle)]
-pub extern "C" fn isferghul_restore_levels<'a>(
+pub fn isferghul_restore_levels<'a>(
     low: &'a [f64],
     high: &'a [f64],
     packed: &[f64],
@@ -69,8 +67,7 @@ pub extern "C" fn isferghul_restore_levels<'a>(
 }
 
 // The same, each joined line divided by s.
-#[unsafe(no_mangle)]
-pub extern "C" fn isferghul_restore_divided<'a>(
+pub fn isferghul_restore_divided<'a>(
     low: &'a [f64],
     high: &'a [f64],
     s: f64,

@@ -4,8 +4,7 @@ ghost use Rattle.isferghul.specs.Levels.{PlaceTold};
 use level_parts::read_place;
 use level_telling::told;
 
-#[unsafe(no_mangle)]
-pub extern "C" fn isferghul_read_place(
+pub fn isferghul_read_place(
     packed: &[f64],
     n: usize,
     f: usize,

@@ -10,8 +10,7 @@ use planes::sizes;
 use telling::borders::{border_of, no_border};
 use telling::told::one;
 
-#[unsafe(no_mangle)]
-pub extern "C" fn isferghul_plane_band_width(
+pub fn isferghul_plane_band_width(
     width: usize,
     height: usize,
     f: usize,
@@ -22,8 +21,7 @@ pub extern "C" fn isferghul_plane_band_width(
     size_told(sizes::plane_band_width(width, height, f), carried)
 }
 
-#[unsafe(no_mangle)]
-pub extern "C" fn isferghul_plane_band_height(
+pub fn isferghul_plane_band_height(
     width: usize,
     height: usize,
     f: usize,
@@ -34,8 +32,7 @@ pub extern "C" fn isferghul_plane_band_height(
     size_told(sizes::plane_band_height(width, height, f), carried)
 }
 
-#[unsafe(no_mangle)]
-pub extern "C" fn isferghul_plane_band_length(
+pub fn isferghul_plane_band_length(
     width: usize,
     height: usize,
     f: usize,
@@ -46,8 +43,7 @@ pub extern "C" fn isferghul_plane_band_length(
     size_told(sizes::plane_band_length(width, height, f), carried)
 }
 
-#[unsafe(no_mangle)]
-pub extern "C" fn isferghul_plane_scratch(
+pub fn isferghul_plane_scratch(
     width: usize,
     height: usize,
     f: usize,
@@ -58,8 +54,7 @@ pub extern "C" fn isferghul_plane_scratch(
     size_told(sizes::plane_scratch(width, height, f), carried)
 }
 
-#[unsafe(no_mangle)]
-pub extern "C" fn isferghul_analyse_plane<'a>(
+pub fn isferghul_analyse_plane<'a>(
     border: usize,
     low: &'a [f64],
     high: &'a [f64],
@@ -86,8 +81,7 @@ pub extern "C" fn isferghul_analyse_plane<'a>(
 }
 
 // No border: synthesis reads none.
-#[unsafe(no_mangle)]
-pub extern "C" fn isferghul_synthesise_plane<'a>(
+pub fn isferghul_synthesise_plane<'a>(
     low: &'a [f64],
     high: &'a [f64],
     ll: &[f64],
@@ -108,8 +102,7 @@ pub extern "C" fn isferghul_synthesise_plane<'a>(
     plane_told(answer, carried)
 }
 
-#[unsafe(no_mangle)]
-pub extern "C" fn isferghul_compare_bands(
+pub fn isferghul_compare_bands(
     first: &[f64],
     second: &[f64],
     width: usize,

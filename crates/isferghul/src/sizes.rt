@@ -5,29 +5,25 @@ use bank::sizes;
 use convolution::pads;
 use line_telling::told;
 
-#[unsafe(no_mangle)]
-pub extern "C" fn isferghul_band_length(n: usize, f: usize, carried: &mut [usize; 2]) -> u64
+pub fn isferghul_band_length(n: usize, f: usize, carried: &mut [usize; 2]) -> u64
     ensures { BandLengthTold n f carried.old result carried.new }
 {
     told::size(sizes::band_length(n, f), carried)
 }
 
-#[unsafe(no_mangle)]
-pub extern "C" fn isferghul_line_length(m: usize, f: usize, carried: &mut [usize; 2]) -> u64
+pub fn isferghul_line_length(m: usize, f: usize, carried: &mut [usize; 2]) -> u64
     ensures { LineLengthTold m f carried.old result carried.new }
 {
     told::size(sizes::line_length(m, f), carried)
 }
 
-#[unsafe(no_mangle)]
-pub extern "C" fn isferghul_analysis_scratch(n: usize, f: usize, carried: &mut [usize; 2]) -> u64
+pub fn isferghul_analysis_scratch(n: usize, f: usize, carried: &mut [usize; 2]) -> u64
     ensures { AnalysisScratchTold n f carried.old result carried.new }
 {
     told::size(sizes::analysis_scratch(n, f), carried)
 }
 
-#[unsafe(no_mangle)]
-pub extern "C" fn isferghul_convolution_scratch(
+pub fn isferghul_convolution_scratch(
     n: usize,
     f: usize,
     centre: i64,

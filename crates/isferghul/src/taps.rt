@@ -4,8 +4,7 @@ ghost use Rattle.isferghul.specs.Lines.{MirrorTold, PairsTold};
 use bank::making::{Making, pairs_answer};
 use bank::taps;
 
-#[unsafe(no_mangle)]
-pub extern "C" fn isferghul_mirror(low: &[f64], high: &mut [f64]) -> u64
+pub fn isferghul_mirror(low: &[f64], high: &mut [f64]) -> u64
     ensures { MirrorTold low.now high.old result high.new }
 {
     match taps::mirror(low, high) {
@@ -15,8 +14,7 @@ pub extern "C" fn isferghul_mirror(low: &[f64], high: &mut [f64]) -> u64
 }
 
 // The lengths of the two lists for the way there and of the two for the way back, which no other export sees together.
-#[unsafe(no_mangle)]
-pub extern "C" fn isferghul_two_pairs(
+pub fn isferghul_two_pairs(
     lows: usize,
     highs: usize,
     lowbacks: usize,

@@ -4,8 +4,7 @@ ghost use Rattle.isferghul.specs.Lines.{MirrorTold};
 use bank::making::Making;
 use bank_f32::taps;
 
-#[unsafe(no_mangle)]
-pub extern "C" fn isferghul_mirror_f32(low: &[f32], high: &mut [f32]) -> u64
+pub fn isferghul_mirror_f32(low: &[f32], high: &mut [f32]) -> u64
     ensures { MirrorTold low.now high.old result high.new }
 {
     match taps::mirror(low, high) {

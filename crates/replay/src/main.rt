@@ -2,7 +2,7 @@
 use questions::replay;
 use questions::saying::say;
 use std::env;
-use std::fd::AsRawFd;
+use std::os::fd::AsRawFd;
 use std::fs::File;
 
 fn replay_file(rt: &HostRuntime, name: &str) {
