@@ -4,6 +4,7 @@ mod asking;
 mod asking_f32;
 mod bits;
 mod bits_f32;
+pub mod files;
 mod floats;
 mod floats_f32;
 mod on_banks;
