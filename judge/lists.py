@@ -1,5 +1,5 @@
 #!/usr/bin/env python3
-"""judge/lists.py: fails where the lists that crates/replay and crates/replay_small read, or what crates/example has to print, are not what docs/RULES.md
+"""judge/lists.py: fails where the lists that crates/replay, crates/replay_divided and crates/replay_small read, or what crates/example has to print, are not what docs/RULES.md
 and the proved examples say, or where crates/questions names an operation otherwise than judge/protocol.py. judge/lists.py --write writes them anew.
 (The Rust's list is judge/list's.)"""
 import pathlib
@@ -20,6 +20,7 @@ import shown
 
 ROOT = pathlib.Path(__file__).resolve().parent.parent
 DATA = ROOT / 'crates/replay/data'
+DIVIDED_DATA = ROOT / 'crates/replay_divided/data'
 SMALL = ROOT / 'crates/replay_small/stdin'
 CALLS = ROOT / 'crates/questions/src'
 SMALL_WORDS, SMALL_EACH = 70, 2
@@ -68,10 +69,10 @@ def lists():
     rules, divided = questions_of(RULES), questions_of(DIVIDED)
     return {
         DATA / 'rules': ["# Calls and the answers of docs/RULES.md to them, computed by judge/rules.py and judge/sums.py; judge/asked.py and the five beside it ask.", *protocol.FORM, *answered(rules)],
-        DATA / 'divided': ["# Calls that restore with division and the answers of docs/RULES.md to them, computed by judge/rules.py and judge/sums.py; judge/asked_divided.py asks.", *protocol.FORM, *answered(divided)],
+        DIVIDED_DATA / 'divided': ["# Calls that restore with division and the answers of docs/RULES.md to them, computed by judge/rules.py and judge/sums.py; judge/asked_divided.py asks.", *protocol.FORM, *answered(divided)],
         DATA / 'examples': ["# P1 to P13 of docs/RULES.md, made by judge/examples.py of the list that is proved in crates/worked/specs/Examples.antt.", *protocol.FORM, *answered(examples.questions())],
         ROOT / 'crates/example/stdout': shown.lines(),
-        SMALL: ["# P1 to P13 of docs/RULES.md, and a few of the questions that crates/replay/data/rules and divided have of each operation.", *protocol.FORM, *answered(examples.questions()), *answered(few(rules + divided))]}
+        SMALL: ["# P1 to P13 of docs/RULES.md, and a few of the questions that crates/replay/data/rules has of each operation.", *protocol.FORM, *answered(examples.questions()), *answered(few(rules))]}
 
 
 def misnamed():
