@@ -1,3 +1,5 @@
+#![tactic(auto)]
+
 use bands_run::{ERRORS, INPUT, OUTPUT};
 
 // A program cannot set its status, so a line on standard error tells where not all of the output was taken.

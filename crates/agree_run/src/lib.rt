@@ -1,4 +1,6 @@
 // What the program `agree` does: it reads a text, has it answered, and writes the answer.
+#![tactic(auto)]
+
 ghost use Rattle.std.specs.Prelude.{◌≤◌, length};
 ghost use Rattle.agreeing.specs.Agreements.{room};
 

@@ -1,5 +1,5 @@
 -- Laws of both bands in one buffer: none of either, some places more, and all of them; and the line that lies behind them stays.
-use Rattle.std.specs.Prelude.{ℕ, ◌+◌, ◌-◌, ◌≤◌, ◌<◌, ◌⊎◌, List, ◌++◌, ◌≡◌, refl, length, set, take, drop, Float}
+use Rattle.std.specs.Prelude.{ℕ, ◌+◌, ◌-◌, ◌≤◌, ◌<◌, List, ◌++◌, ◌≡◌, refl, length, set, take, drop, Float}
 use Rattle.std.proofs.Math.Decide.{dec_lt}
 use Rattle.std.proofs.Common.{arith, inl, inr, ⊎_elim, sym, ap, subst, ◌∙◌, length-append, length-set, get_or-append-add}
 use Rattle.std.proofs.Math.ListN.{get_or-append}

@@ -1,4 +1,6 @@
 // The whole of `bands`, from the text that it reads to the text that it prints.
+#![tactic(auto)]
+
 pub mod asking;
 pub mod work;
 

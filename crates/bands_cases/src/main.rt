@@ -1,12 +1,14 @@
 // What `bands` and then `agree` answer to each file that the arguments name, below a line with its name; and what `agree` would print of bands that part.
+#![tactic(auto)]
+
 use agreeing::ROOM;
 use agreeing::saying::print_parting;
 use bands_run::{INPUT, OUTPUT};
 use parting::finding::parting;
 use printing::Printing;
 use std::env;
-use std::os::fd::AsRawFd;
 use std::fs::File;
+use std::os::fd::AsRawFd;
 
 // No descriptor is this.
 const NONE: i32 = -1;

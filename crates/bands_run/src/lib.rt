@@ -1,4 +1,6 @@
 // What the program `bands` does: it reads a text, has it answered, and writes the answer.
+#![tactic(auto)]
+
 ghost use Rattle.std.specs.Prelude.{◌≤◌, length};
 ghost use Rattle.answering.specs.Answers.{roomiest, size_in};
 

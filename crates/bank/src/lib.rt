@@ -1,4 +1,6 @@
 // The bank of filters: its record, how it is made, and the lengths that a user has to know to lend buffers.
+#![tactic(auto)]
+
 pub mod lengths;
 pub mod making;
 pub mod sizes;

@@ -1,4 +1,6 @@
 // crates/bank/src/lib.rt of 32-bit floats, made by tools/narrow.py.
+#![tactic(auto)]
+
 pub mod making;
 pub mod taps;
 pub mod work;

@@ -1,6 +1,8 @@
 // The entries that take a bank, for the bench to count: a bank is made, and its entry called once or twice. The second call is what an entry costs.
 // A large function that is called in two places is not inlined, so both are calls that know nothing of the bank.
 // The other way has the same taps exchanged, so that an entry which read its pair would give other numbers.
+#![tactic(auto)]
+
 use analysis::{Analysis, analyse};
 use bank::making::two_pairs;
 use synthesis::{Synthesis, synthesise};

@@ -1,4 +1,6 @@
 // Borders: what stands left and right of a line, and lines with it written out.
+#![tactic(auto)]
+
 pub mod pad;
 pub mod rule;
 

@@ -1,4 +1,6 @@
 // Comparing two bands of a plane, column by column as they are stored.
+#![tactic(auto)]
+
 pub mod work;
 
 ghost use Rattle.std.specs.Prelude.{◌≡◌};

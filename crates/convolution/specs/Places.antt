@@ -3,7 +3,7 @@ use Rattle.std.specs.Prelude.{◌≡◌, refl, ltb, T, pos, negsuc, ◌-ℤ◌, 
 use Rattle.std.proofs.Common.{◌∙◌, ap, subst, sym, lt-ltb, ltb-true, le-ltb, ltb-false, arith, SFits, of_z, to_z}
 use Rattle.convolution.specs.Pads.{above, left_pad, right_pad, beyond}
 use Rattle.std.proofs.Math.Bool.{or-false}
-use Rattle.numbers.specs.Words.{at, longest}
+use Rattle.numbers.specs.Words.{longest}
 use Rattle.std.specs.Int.Signed.{lt_z, mag}
 use Rattle.std.specs.Int.{w64}
 use Rattle.std.proofs.lemmas.Int.{to_z-of_z}

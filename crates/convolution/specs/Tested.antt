@@ -8,7 +8,7 @@ use Rattle.border.specs.Reach.{Paddable}
 use Rattle.convolution.specs.Pads.{beyond, left_pad, needed, too_far, right_pad, pad_over}
 use Rattle.convolution.specs.Places.{within}
 use Rattle.numbers.specs.Tests.{neither, passed}
-use Rattle.numbers.specs.Words.{at, longest}
+use Rattle.numbers.specs.Words.{longest}
 use Rattle.std.proofs.lemmas.Bool.{eqb-false, not-false}
 use Rattle.std.proofs.Math.Bool.{and-true}
 use Rattle.convolution.specs.Works.{Kernel}

@@ -1,4 +1,6 @@
 // Convolution of one line with a kernel about its centre.
+#![tactic(auto)]
+
 pub mod pads;
 pub mod reach;
 pub mod work;

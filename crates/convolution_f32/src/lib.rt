@@ -1,4 +1,6 @@
 // crates/convolution/src/lib.rt of 32-bit floats, made by tools/narrow.py.
+#![tactic(auto)]
+
 pub mod work;
 
 ghost use Rattle.std.specs.Float.{binary32};

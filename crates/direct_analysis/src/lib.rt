@@ -1,5 +1,7 @@
 // Analysis of one line by a plain second engine, written from the rules: each sample is asked for by the border rule, no padded line is built and no scratch is lent.
 // Of the first engine it has the tests, the answers and the border rule's definition, and no loop, copy or sum.
+#![tactic(auto)]
+
 pub mod lists;
 pub mod rule;
 pub mod sums;

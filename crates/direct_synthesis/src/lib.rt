@@ -1,5 +1,7 @@
 // Synthesis of one line by the second engine, written from the rules: each place is gathered by itself, from the pairs that reach it.
 // Of the first engine it has the tests and the answers, and no loop, copy or sum.
+#![tactic(auto)]
+
 pub mod lists;
 pub mod work;
 

@@ -1,4 +1,6 @@
 // A line divided by a whole number, place by place, and which floats are such numbers.
+#![tactic(auto)]
+
 ghost use Rattle.std.specs.Prelude.{◌≡◌};
 ghost use Rattle.std.specs.Float.{binary64};
 ghost use Rattle.dividing.specs.Divisions.{bad_divisor, divided, finished};

@@ -1,4 +1,6 @@
 // There and back: a line into its bands and the bands into a cleared output, which restores the line exactly where that can be.
+#![tactic(auto)]
+
 ghost use Rattle.std.specs.Prelude.{◌≡◌};
 ghost use Rattle.std.specs.Float.{binary64};
 ghost use Rattle.exact.specs.Backs.{answer_of, Returned};

@@ -1,4 +1,6 @@
 // crates/exact/src/lib.rt of 32-bit floats, made by tools/narrow.py.
+#![tactic(auto)]
+
 ghost use Rattle.std.specs.Float.{binary32};
 ghost use Rattle.exact.specs.Backs.{Returned};
 

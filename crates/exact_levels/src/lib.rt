@@ -1,4 +1,6 @@
 // There and back over levels: a line into its packed buffer and back, each joined line divided, which gives the line back exactly where that can be.
+#![tactic(auto)]
+
 ghost use Rattle.std.specs.Prelude.{◌≡◌};
 ghost use Rattle.exact_levels.specs.Backs.{answer_of, ThereAndBack};
 

@@ -1,4 +1,6 @@
 // Sixteen places of one parity, gathered from the pairs that reach them. Inlined, their sums stay in registers, several to each.
+#![tactic(auto)]
+
 pub mod seconds;
 
 ghost use Rattle.std.specs.Prelude.{◌≡◌, ◌+◌, ◌*◌, ◌≤◌, length};

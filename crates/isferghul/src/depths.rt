@@ -3,23 +3,13 @@ ghost use Rattle.isferghul.specs.Levels.{PackedLengthTold, LevelsScratchTold, Re
 
 use level_telling::told;
 
-pub fn isferghul_packed_length(
-    n: usize,
-    f: usize,
-    levels: usize,
-    carried: &mut [usize; 2],
-) -> u64
+pub fn isferghul_packed_length(n: usize, f: usize, levels: usize, carried: &mut [usize; 2]) -> u64
     ensures { PackedLengthTold n f levels carried.old result carried.new }
 {
     told::level_size(level_sizes::packed_length(n, f, levels), carried)
 }
 
-pub fn isferghul_levels_scratch(
-    n: usize,
-    f: usize,
-    levels: usize,
-    carried: &mut [usize; 2],
-) -> u64
+pub fn isferghul_levels_scratch(n: usize, f: usize, levels: usize, carried: &mut [usize; 2]) -> u64
     ensures { LevelsScratchTold n f levels carried.old result carried.new }
 {
     told::level_size(level_sizes::levels_scratch(n, f, levels), carried)

@@ -14,12 +14,7 @@ pub fn isferghul_mirror(low: &[f64], high: &mut [f64]) -> u64
 }
 
 // The lengths of the two lists for the way there and of the two for the way back, which no other export sees together.
-pub fn isferghul_two_pairs(
-    lows: usize,
-    highs: usize,
-    lowbacks: usize,
-    highbacks: usize,
-) -> u64
+pub fn isferghul_two_pairs(lows: usize, highs: usize, lowbacks: usize, highbacks: usize) -> u64
     ensures { PairsTold lows highs lowbacks highbacks result }
 {
     match pairs_answer(lows, highs, lowbacks, highbacks) {

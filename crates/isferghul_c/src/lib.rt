@@ -1,4 +1,6 @@
 // What C links to: the exports, which call the functions of their names in `isferghul` and promise what those do.
+#![tactic(auto)]
+
 mod depths;
 mod direct;
 mod lines;

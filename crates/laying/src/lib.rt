@@ -1,4 +1,6 @@
 // Texts laid onto the front of a buffer, as far as it reaches: bytes, and numbers by their digits.
+#![tactic(auto)]
+
 pub mod digits;
 
 ghost use Rattle.laying.specs.Lays.{Lays};

@@ -1,4 +1,6 @@
 // The packed buffer's parts, handed out and read; level 0 names the last approximations.
+#![tactic(auto)]
+
 ghost use Rattle.std.specs.Prelude.{◌≡◌};
 ghost use Rattle.level_parts.specs.Parts.{handing_of, HandedOut, Read};
 

@@ -1,4 +1,6 @@
 // The lengths that a user of levels has to know: to lend buffers, and to find a level in the packed one.
+#![tactic(auto)]
+
 ghost use Rattle.level_sizes.specs.Sizes.{PackedSized, ScratchSized, RestoringSized, MostSized, PartSized};
 
 use numbers::most;

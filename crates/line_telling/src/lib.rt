@@ -1,2 +1,4 @@
 // Answers about one line told to C, each by its number and what it carries.
+#![tactic(auto)]
+
 pub mod told;

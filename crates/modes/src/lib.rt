@@ -1,4 +1,6 @@
 // The border's name, in the first line.
+#![tactic(auto)]
+
 ghost use Rattle.std.specs.Prelude.{◌≡◌};
 ghost use Rattle.modes.specs.Names.{begins, front, mode_text, mode_of};
 

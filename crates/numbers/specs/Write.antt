@@ -8,7 +8,7 @@ use Rattle.std.proofs.Math.Numerals.{add-one}
 use Rattle.std.proofs.Math.ListN.{length, get_or, take, set, length-append, length-drop, take-append-drop, get_or-append}
 use Rattle.std.proofs.Math.Seq.{set_at, get_or_at, take_at, drop_at, drop-length, append_snoc, length-take-le}
 use Rattle.std.proofs.Math.Logic.{⊎_elim}
-use Rattle.numbers.specs.Words.{tab, written, placed, replaced, at}
+use Rattle.numbers.specs.Words.{tab, written, placed, replaced}
 
 module _ {A : Type 0} where
   pub length-tab : (g : ℕ → A) (n : ℕ) → length (tab g n) ≡ n

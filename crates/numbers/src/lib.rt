@@ -1,4 +1,6 @@
 // Numbers that every crate works with, and copies of lists; specs/ has the words and laws that they cite.
+#![tactic(auto)]
+
 pub mod copying;
 
 ghost use Rattle.std.specs.Prelude.{◌≡◌, ◌-◌, min, max};

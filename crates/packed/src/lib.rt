@@ -1,4 +1,6 @@
 // The packed buffer of several levels: details 1, details 2 and so on, then the last approximations. Here are its lengths and tests, and no sums.
+#![tactic(auto)]
+
 pub mod depth;
 
 ghost use Rattle.std.specs.Prelude.{◌≡◌};

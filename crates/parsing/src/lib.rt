@@ -1,4 +1,6 @@
 // What `bands` reads, from a lent text into a lent buffer.
+#![tactic(auto)]
+
 pub mod line;
 pub mod lists;
 

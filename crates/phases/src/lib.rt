@@ -1,4 +1,6 @@
 // Where the reading of a line of numbers stands, and what one byte more makes of it.
+#![tactic(auto)]
+
 ghost use Rattle.std.specs.Prelude.{◌≡◌};
 ghost use Rattle.phases.specs.Phases.{least, firstly, starting, freshly, grown, behind, stepped, closed_at, value_of};
 

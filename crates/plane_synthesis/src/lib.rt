@@ -1,4 +1,6 @@
 // Synthesis of a plane: an upper crate over the line filter's promises.
+#![tactic(auto)]
+
 pub mod lists;
 pub mod work;
 

@@ -1,4 +1,6 @@
 // Answers about planes and bands told to C, as `telling` tells the others.
+#![tactic(auto)]
+
 ghost use Rattle.planes.specs.Answers as Answers;
 ghost use Rattle.comparing.specs.Comparings as Comparings;
 ghost use Rattle.telling.specs.Told.{Told};

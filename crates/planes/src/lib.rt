@@ -1,4 +1,6 @@
 // A plane and its four bands: here are their lengths and the tests that analysis and synthesis share, and no sums.
+#![tactic(auto)]
+
 pub mod needs;
 pub mod sizes;
 

@@ -1,4 +1,6 @@
 // What the program prints, onto a lent buffer: two bands, or a refusal.
+#![tactic(auto)]
+
 pub mod work;
 
 ghost use Rattle.std.specs.Prelude.{false};

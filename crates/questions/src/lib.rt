@@ -1,4 +1,6 @@
 // Reads a call and what it has to answer from a text, makes the call, and says whether number, carried values and every lent buffer agree.
+#![tactic(auto)]
+
 mod answers;
 mod asking;
 mod asking_f32;

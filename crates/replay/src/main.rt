@@ -1,4 +1,6 @@
 // Replays each list that the arguments name.
+#![tactic(auto)]
+
 use questions::files::replay_named;
 use std::env;
 

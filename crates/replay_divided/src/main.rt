@@ -1,4 +1,6 @@
 // Replays each list that the arguments name: those that restore with division.
+#![tactic(auto)]
+
 use questions::files::replay_named;
 use std::env;
 

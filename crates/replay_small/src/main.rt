@@ -1,4 +1,6 @@
 // Replays a short list from standard input, on every engine.
+#![tactic(auto)]
+
 use questions::replay;
 use questions::saying::say;
 

@@ -1,28 +1,22 @@
 -- Laws of the part handed out, whatever is done to a joined line: none on a refusal, else the front of the buffer that holds the line.
-use Rattle.std.specs.Prelude.{◌≡◌, Bool, cond, List, [], ltb, eqb, length, take, Float}
-use Rattle.std.proofs.Math.Path.{refl, ap, subst}
-use Rattle.std.proofs.Common.{sym, ◌∙◌, arith, ltb-false}
-use Rattle.std.proofs.Math.Bool.{true, false}
+use Rattle.std.specs.Prelude.{◌≡◌, Bool, cond, List, [], eqb, length, take, Float}
+use Rattle.std.proofs.Math.Path.{refl, ap}
+use Rattle.std.proofs.Common.{sym, ◌∙◌, arith}
 use Prim.Native.Nat.{ℕ, zero, suc, ◌-◌, ◌%◌, ◌<◌}
 use Rattle.std.proofs.Math.Dec.{lit<}
 use Rattle.std.specs.Float.{Format}
 use Rattle.std.specs.Float.Ieee.{binary64}
 use Rattle.std.specs.Borrow.{MutBor}
 use Rattle.numbers.specs.Words.{when_done}
-use Rattle.numbers.specs.Tests.{passed, kept}
-use Rattle.bank.specs.Lengths.{bad_taps, line_length}
+use Rattle.numbers.specs.Tests.{kept}
+use Rattle.bank.specs.Lengths.{line_length}
 use Rattle.synthesis.specs.Runs.{length_join}
-use Rattle.packed.specs.declared.Levels.{Levels}
 use Rattle.packed.specs.declared.Levels.TheVariants as answers
 use Rattle.packed.specs.Lengths.{levels_of, line_after, restoring_length}
-use Rattle.packed.specs.Answers.{number_of, held_of, part_at}
-use Rattle.packed.specs.Tested.{done_alone, both_done, filled, first_line}
+use Rattle.packed.specs.Answers.{part_at}
+use Rattle.packed.specs.Tested.{first_line}
 use Rattle.packed.specs.Follow.{length_part, whole_length}
-use Rattle.dividing.specs.Divisions.{bad_divisor}
-use Rattle.restoring.specs.declared.divided.Divided.{Divided}
-use Rattle.restoring.specs.declared.divided.Divided.TheVariants.{Done, Divisor, Refused}
 use Rattle.restoring.specs.Lines.{joined_by, first_by, second_by}
-use Rattle.restoring.specs.Restorings.{answer_of}
 use Rattle.restoring.specs.Dividings as Dividings
 use Rattle.restoring.specs.Joins.{whole_front}
 use Rattle.restoring.specs.Works.{Restoring, Fronted}

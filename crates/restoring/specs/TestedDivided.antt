@@ -1,31 +1,23 @@
 -- Laws of the tests with a divisor: an answer is done where the divisor and restoring pass, and every other answer is a refusal.
-use Rattle.std.specs.Prelude.{◌≡◌, Bool, cond, List, [], ltb, eqb, length, take, Float}
+use Rattle.std.specs.Prelude.{◌≡◌, Bool, cond, [], Float}
 use Rattle.std.proofs.Math.Path.{refl, ap, subst}
-use Rattle.std.proofs.Common.{sym, ◌∙◌, arith, ltb-false}
+use Rattle.std.proofs.Common.{sym, ◌∙◌, arith}
 use Rattle.std.proofs.Math.Bool.{true, false}
 use Prim.Native.Nat.{ℕ, zero, suc, ◌-◌, ◌%◌, ◌<◌}
 use Rattle.std.proofs.Math.Dec.{lit<}
-use Rattle.std.specs.Float.{Format}
 use Rattle.std.specs.Float.Ieee.{binary64}
-use Rattle.std.specs.Borrow.{MutBor}
 use Rattle.numbers.specs.Words.{when_done}
-use Rattle.numbers.specs.Tests.{passed, kept}
-use Rattle.bank.specs.Lengths.{bad_taps, line_length}
-use Rattle.synthesis.specs.Runs.{length_join}
+use Rattle.numbers.specs.Tests.{passed}
+use Rattle.bank.specs.Lengths.{bad_taps}
 use Rattle.packed.specs.declared.Levels.{Levels}
 use Rattle.packed.specs.declared.Levels.TheVariants as answers
-use Rattle.packed.specs.Lengths.{levels_of, line_after, restoring_length}
-use Rattle.packed.specs.Answers.{number_of, held_of, part_at}
-use Rattle.packed.specs.Tested.{done_alone, both_done, filled, first_line}
-use Rattle.packed.specs.Follow.{length_part, whole_length}
+use Rattle.packed.specs.Answers.{number_of}
+use Rattle.packed.specs.Tested.{done_alone}
 use Rattle.dividing.specs.Divisions.{bad_divisor}
 use Rattle.restoring.specs.declared.divided.Divided.{Divided}
 use Rattle.restoring.specs.declared.divided.Divided.TheVariants.{Done, Divisor, Refused}
-use Rattle.restoring.specs.Lines.{joined_by, first_by, second_by}
 use Rattle.restoring.specs.Restorings.{answer_of}
 use Rattle.restoring.specs.Dividings as Dividings
-use Rattle.restoring.specs.Steps.{whole_front}
-use Rattle.restoring.specs.Works.{Restoring, Fronted}
 
 module _ (n f : ℕ) (s : Float) (levels p a b : ℕ) where
   abbrev lengths : Levels

@@ -1,4 +1,6 @@
 // Restoring several levels between two lent buffers: an upper crate over the line filter's promises.
+#![tactic(auto)]
+
 pub mod divided;
 pub mod lists;
 pub mod work;

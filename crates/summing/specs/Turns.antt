@@ -1,10 +1,10 @@
 -- Laws of a loop over the taps, for one sum and for those of several places: as it begins, one tap more, and as it ends it has the sum.
-use Rattle.std.specs.Prelude.{◌≡◌, List, [], ◌∷◌, ℕ, ◌+◌, ◌*◌, ◌≤◌, replicate, Float}
+use Rattle.std.specs.Prelude.{◌≡◌, List, ℕ, ◌+◌, ◌*◌, ◌≤◌, replicate, Float}
 use Rattle.std.proofs.Math.Path.{refl, sym, ap}
 use Rattle.std.proofs.Common.{◌∙◌, add-one, arith}
 use Rattle.std.specs.Float.{Format, nan}
 use Rattle.std.specs.Float.Ieee.{add, mul, of_bits}
-use Rattle.numbers.specs.Words.{at, tab, plus_zero}
+use Rattle.numbers.specs.Words.{at, tab}
 use Rattle.numbers.specs.Write.{get_or-tab}
 use Rattle.numbers.specs.Places.{tab_same}
 use Rattle.numbers.specs.Tests.{literal_zero}

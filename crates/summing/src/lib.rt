@@ -1,4 +1,6 @@
 // Both sums of one place, over the samples of a padded line: what every band is made of.
+#![tactic(auto)]
+
 pub mod eights;
 
 ghost use Rattle.std.specs.Prelude.{◌≡◌, length};

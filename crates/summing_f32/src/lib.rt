@@ -1,4 +1,6 @@
 // crates/summing/src/lib.rt of 32-bit floats, made by tools/narrow.py.
+#![tactic(auto)]
+
 pub mod eights;
 
 ghost use Rattle.std.specs.Prelude.{◌≡◌, length};

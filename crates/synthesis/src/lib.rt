@@ -1,4 +1,6 @@
 // Synthesis of one line.
+#![tactic(auto)]
+
 pub mod lists;
 pub mod work;
 

@@ -1,4 +1,6 @@
 // crates/synthesis/src/lib.rt of 32-bit floats, made by tools/narrow.py.
+#![tactic(auto)]
+
 pub mod lists;
 pub mod work;
 

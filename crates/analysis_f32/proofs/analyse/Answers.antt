@@ -1,5 +1,4 @@
 -- `analysis_f32::analyse` meets its contract: it is that of its lists, which are a bank's arrays with their count.
-use mathlib.Core.Path.{sym}
 use Rattle.bank.specs.Tested.{counted_all}
 use borrow.Author.Rules.{rules}
 use Rattle.analysis_f32.proofs.analyse.Goals as goal

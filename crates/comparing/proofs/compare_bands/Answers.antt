@@ -1,8 +1,7 @@
 -- `comparing::compare_bands` meets its contract. Where the tests answer equal both bands have the length that the scan asks for, and what it finds is the answer; any other answer of theirs is a refusal.
 use lib.ListN.{length}
-use mathlib.Core.Path.{◌≡◌, refl, sym, ap, ◌∙◌}
+use mathlib.Core.Path.{◌≡◌, sym, ap, ◌∙◌}
 use native.Mathlib.Omega.{arith}
-use Rattle.numbers.specs.Tests.{other}
 use Rattle.comparing.specs.declared.Compared.TheVariants.{Equal}
 use Rattle.comparing.specs.Comparings.{number_of, tests_of}
 use Rattle.comparing.specs.Tested.{all_passed, refused, compared}

@@ -1,12 +1,12 @@
 -- `convolution::convolution_answer` meets its contract: the tests are the definition's, in its order.
 use Rattle.convolution.specs.Convolutions.{answer_of}
-use Rattle.convolution.specs.Pads.{beyond, centre_of, left_pad, needed, too_far, right_pad}
+use Rattle.convolution.specs.Pads.{centre_of, left_pad, needed, too_far, right_pad}
 use Rattle.convolution.specs.Tested.{kernel_of}
 use borrow.Author.Tests.{eq-eqb, ne_eqb, le-leb, le-ltb, lt-leb, lt-ltb}
 use mathlib.Core.Path.{◌∙◌, sym, ◌≡◌}
 use Prim.Native.Nat.{◌+◌, ◌≤◌}
 use Rattle.convolution.specs.Places.{nears, within}
-use Rattle.numbers.specs.Words.{at, longest}
+use Rattle.numbers.specs.Words.{longest}
 use lib.IntN.{nat_abs}
 use native.Mathlib.Omega.{arith}
 use Rattle.convolution.specs.Works.{Kernel, ShortPads}

@@ -1,5 +1,5 @@
 -- `dividing::divide` meets its contract: each turn divides the next place, and what lies behind it is as it was.
-use Rattle.std.proofs.Common.{◌-◌, get_or, arith, length-set, rules}
+use Rattle.std.proofs.Common.{get_or, arith, length-set, rules}
 use lib.Ieee.{nan, binary64, div}
 use Rattle.numbers.specs.Write.{written_start, written_full}
 use Rattle.dividing.specs.Divisors.{divided_step}

@@ -1,5 +1,5 @@
 -- `exact::back_answer` meets its contract: it answers by the first way that refuses, and is done where neither does.
-use mathlib.Core.Path.{refl, sym, ◌∙◌}
+use mathlib.Core.Path.{sym, ◌∙◌}
 use Rattle.analysis.specs.contracts.Analysis as analysis
 use Rattle.synthesis.specs.contracts.Synthesis as synthesis
 use Rattle.exact.specs.Calls.{there_refused, back_refused, both_done}

@@ -1,5 +1,5 @@
 -- `exact_levels::levels_back_answer` meets its contract: it answers by the first way that refuses, and is done where neither does.
-use mathlib.Core.Path.{refl, sym, ◌∙◌}
+use mathlib.Core.Path.{sym, ◌∙◌}
 use Rattle.packed.specs.contracts.Levels as levels
 use Rattle.restoring.specs.contracts.divided.Divided as divided
 use Rattle.exact_levels.specs.Tested.{there_refused, back_refused, both_done}

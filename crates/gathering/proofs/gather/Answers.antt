@@ -1,6 +1,5 @@
 -- `gathering::gather` meets its contract: after s pairs each of the sixteen sums has gathered s.
 use borrow.Author.Rules.{rules}
-use Prim.Native.Nat.{◌-◌}
 use mathlib.Core.Path.{◌∙◌, ap}
 use lib.ListN.{length}
 use lib.Ieee.{binary64}

@@ -1,6 +1,5 @@
 -- `laying::bytes` meets its contract: each turn lays one place more, and where the turns end either list does.
 use mathlib.Core.Path.{refl, ◌∙◌}
-use Prim.Native.Nat.{◌-◌}
 use native.Mathlib.Omega.{arith}
 use lib.ListN.{length-set}
 use borrow.Author.Rules.{rules}

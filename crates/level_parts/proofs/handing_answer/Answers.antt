@@ -9,7 +9,7 @@ use Rattle.packed.specs.Answers.{held_of}
 use Rattle.level_parts.specs.Parts.{handing_of}
 use Rattle.packed.specs.Lengths.{levels_of}
 use Rattle.packed.specs.Tested.{stopped, went_on}
-use mathlib.Core.Path.{◌≡◌, ◌∙◌, refl, sym}
+use mathlib.Core.Path.{◌≡◌, ◌∙◌, sym}
 use native.Mathlib.Omega.{arith}
 use Rattle.level_parts.proofs.handing_answer.Goals as goal
 use Rattle.level_parts.proofs.handing_answer.Goals.{In-Done}

@@ -9,7 +9,7 @@ use Rattle.level_sizes.specs.Sizes.{PartSized}
 use Rattle.packed.specs.Lengths.{levels_of, level_start, level_count}
 use Rattle.packed.specs.Tested.{stopped, went_on, asked_done}
 use Prim.Native.Nat.{ℕ, ◌≤◌, ◌<◌}
-use mathlib.Core.Path.{◌≡◌, ◌∙◌, refl, sym, ap}
+use mathlib.Core.Path.{◌≡◌, ◌∙◌, sym, ap}
 use native.Mathlib.Omega.{arith}
 use Rattle.level_sizes.proofs.level_part.Goals as goal
 use Rattle.level_sizes.proofs.level_part.Goals.{In-Done}

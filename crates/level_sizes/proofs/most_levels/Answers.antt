@@ -2,7 +2,7 @@
 use Rattle.level_sizes.specs.declared.LevelSize.TheVariants.{Length, Refused}
 use Rattle.packed.specs.Tested.{stopped, went_on, asked_done, as_far}
 use Rattle.packed.specs.Works.{Split}
-use mathlib.Core.Path.{◌∙◌, refl, sym, ap}
+use mathlib.Core.Path.{◌∙◌, sym, ap}
 use Rattle.level_sizes.proofs.most_levels.Goals as goal
 use Rattle.level_sizes.proofs.most_levels.Goals.{In-Done}
 

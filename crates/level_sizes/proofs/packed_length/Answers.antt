@@ -1,7 +1,7 @@
 -- `level_sizes::packed_length` meets its contract: it is refused where the tests refuse, and else it is the length.
 use Rattle.level_sizes.specs.declared.LevelSize.TheVariants.{Length, Refused}
 use Rattle.packed.specs.Tested.{stopped, went_on, asked_done}
-use mathlib.Core.Path.{◌∙◌, refl, sym, ap}
+use mathlib.Core.Path.{◌∙◌, sym, ap}
 use Rattle.level_sizes.proofs.packed_length.Goals as goal
 
 pub returns-in_default : goal.returns-in_default

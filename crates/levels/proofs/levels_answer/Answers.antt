@@ -7,7 +7,7 @@ use Rattle.packed.specs.Answers.{held_of}
 use Rattle.packed.specs.Lengths.{levels_scratch}
 use Rattle.packed.specs.Tested.{stopped, went_on, held_done}
 use Rattle.levels.specs.Analyses.{answer_of}
-use mathlib.Core.Path.{◌≡◌, ◌∙◌, refl, sym, ap}
+use mathlib.Core.Path.{◌≡◌, ◌∙◌, sym, ap}
 use Prim.Native.Nat.{ℕ, ◌≤◌, ◌<◌}
 use native.Mathlib.Omega.{arith}
 use Rattle.levels.proofs.levels_answer.Goals as goal

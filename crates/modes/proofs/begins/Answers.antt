@@ -1,6 +1,5 @@
 -- `modes::begins` meets its contract: up to here the two are alike, so the rest decides.
 use mathlib.Core.Path.{refl}
-use Prim.Native.Nat.{◌-◌}
 use native.Mathlib.Omega.{arith}
 use Rattle.modes.specs.Fronts.{begins_all, begins_short, begins_other, begins_more}
 use Rattle.modes.proofs.begins.Goals as goal

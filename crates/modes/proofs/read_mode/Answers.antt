@@ -1,6 +1,6 @@
 -- `modes::read_mode` meets its contract: none of the borders up to here was found, so the rest of them decide.
 use mathlib.Core.Path.{◌≡◌, refl, sym, ap, ◌∙◌}
-use Prim.Native.Nat.{ℕ, suc, ◌+◌, ◌-◌}
+use Prim.Native.Nat.{ℕ, suc, ◌+◌}
 use native.Mathlib.Omega.{arith}
 use lib.ListN.{get_or, drop, drop_of_length-le}
 use borrow.Author.Rules.{rules}

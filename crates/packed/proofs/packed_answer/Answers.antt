@@ -6,7 +6,7 @@ use Rattle.packed.specs.Lengths.{packed_length}
 use Rattle.packed.specs.Tested.{stopped, went_on, asked_done}
 use mathlib.Core.Bool.{cond, not}
 use mathlib.Core.Logic.{◌≢◌}
-use mathlib.Core.Path.{◌≡◌, ◌∙◌, refl, sym, ap}
+use mathlib.Core.Path.{◌≡◌, ◌∙◌, sym, ap}
 use Prim.Native.Nat.{ℕ}
 use native.Mathlib.Omega.{arith}
 use lib.Dec.{eqb}

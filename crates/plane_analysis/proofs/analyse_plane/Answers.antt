@@ -1,5 +1,4 @@
 -- `plane_analysis::analyse_plane` meets its contract: it is that of its lists, which are a bank's arrays with their count.
-use mathlib.Core.Path.{sym}
 use Rattle.bank.specs.Tested.{counted_all}
 use borrow.Author.Rules.{rules}
 use Rattle.plane_analysis.proofs.analyse_plane.Goals as goal

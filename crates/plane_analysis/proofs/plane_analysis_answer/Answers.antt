@@ -1,6 +1,6 @@
 -- `plane_analysis::plane_analysis_answer` meets its contract: the tests before are those of the plane and the scratch, and where they are done its own are the definition's, in its order.
 use borrow.Author.Tests.{lt-ltb, le-ltb}
-use mathlib.Core.Path.{◌≡◌, ◌∙◌, refl, sym, ap}
+use mathlib.Core.Path.{◌≡◌, ◌∙◌, sym, ap}
 use Prim.Native.Nat.{ℕ, ◌<◌, ◌≤◌}
 use Rattle.planes.specs.declared.Planes.{Planes}
 use Rattle.planes.specs.declared.Planes.TheVariants.{Done, MinFilterSize}
@@ -32,7 +32,6 @@ module _ (w h f p s ll lh hl hh : ℕ) (e : held_of w h f p s ≡ Done) where
   rest : f ≤ w → f ≤ h → {r : Planes} (length : ℕ) → length ≡ band_length w h f → r ≡ bands_of length ll lh hl hh → r ≡ answer_of w h f p s ll lh hl hh
   unfolding answer_of
   rest k l length z q = went_on _ _ e (q ∙ ap (λ (n : ℕ). bands_of n ll lh hl hh) z ∙ simp (le-ltb w f k, le-ltb h f l))
-
 
 pub returns-then-width-f : goal.returns-then-width-f
 returns-then-width-f c = let a = c.args in

@@ -1,6 +1,6 @@
 -- `plane_synthesis::plane_synthesis_answer` meets its contract: each test follows those before it, as in the definition.
 use native.Mathlib.Omega.{arith}
-use mathlib.Core.Path.{◌≡◌, ◌∙◌, refl, sym, ap}
+use mathlib.Core.Path.{◌≡◌, ◌∙◌, sym, ap}
 use Prim.Native.Nat.{ℕ}
 use Rattle.numbers.specs.Words.{and_then}
 use Rattle.planes.specs.declared.Planes.TheVariants.{Done}

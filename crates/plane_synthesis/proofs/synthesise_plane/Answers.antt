@@ -1,5 +1,4 @@
 -- `plane_synthesis::synthesise_plane` meets its contract: it is that of its lists, which are a bank's arrays with their count.
-use mathlib.Core.Path.{sym}
 use Rattle.bank.specs.Tested.{counted_all}
 use borrow.Author.Rules.{rules}
 use Rattle.plane_synthesis.proofs.synthesise_plane.Goals as goal

@@ -1,7 +1,7 @@
 -- `planes::held_answer` meets its contract: the tests before are those of the sides, and where they are done its own are the definition's, in its order.
 use borrow.Author.Tests.{eq-eqb, ne_eqb, lt-ltb, le-ltb}
 use mathlib.Core.Logic.{◌≢◌}
-use mathlib.Core.Path.{◌≡◌, ◌∙◌, refl, sym, ap}
+use mathlib.Core.Path.{◌≡◌, ◌∙◌, sym, ap}
 use Prim.Native.Nat.{ℕ, ◌*◌, ◌<◌, ◌≤◌}
 use native.Mathlib.Omega.{arith}
 use Rattle.planes.specs.declared.Planes.TheVariants.{Done, InputSize}
@@ -33,7 +33,6 @@ module _ (w h f p s : ℕ) (e : asked_of w h f ≡ Done) where
   right : (need : ℕ) → p ≡ w * h → need ≡ plane_scratch w h f → need ≤ s → Done ≡ held_of w h f p s
   unfolding held_of
   right need q z l = went_on _ _ e (simp (eq-eqb p (w * h) q, le-ltb s (plane_scratch w h f) (omega (arith, l, z))))
-
 
 pub overflow_mul-area : goal.overflow_mul-area
 overflow_mul-area c = let a = c.args in omega (arith, (asked_done a.width a.height a.f (asked (goal.at.overflow_mul-area c).In-Done)).product)

@@ -7,7 +7,7 @@ use Rattle.packed.specs.Answers.{held_of}
 use Rattle.packed.specs.Lengths.{restoring_length}
 use Rattle.packed.specs.Tested.{stopped, went_on, held_done, first_line}
 use Rattle.restoring.specs.Restorings.{answer_of}
-use mathlib.Core.Path.{◌≡◌, ◌∙◌, refl, sym, ap}
+use mathlib.Core.Path.{◌≡◌, ◌∙◌, sym, ap}
 use Prim.Native.Nat.{ℕ, ◌≤◌, ◌<◌}
 use native.Mathlib.Omega.{arith}
 use Rattle.restoring.proofs.restoring_answer.Goals as goal

@@ -1,6 +1,5 @@
 -- `summing::place` meets its contract: after j taps the pair holds both sums of j taps.
 use borrow.Author.Rules.{rules}
-use Prim.Native.Nat.{◌-◌}
 use Rattle.summing.specs.Turns.{sum_end, sum_start, sum_step}
 use lib.Ieee.{binary64}
 use Rattle.summing.proofs.place.Goals as goal

@@ -1,6 +1,5 @@
 -- `analysis::work::bands_beside` meets its contract: it goes on from the eights, and each turn writes one place of either half, which is the pair of sums there.
 use borrow.Author.Rules.{rules}
-use Prim.Native.Nat.{◌-◌}
 use native.Mathlib.Omega.{arith}
 use mathlib.Core.Path.{refl, ◌∙◌}
 use lib.ListN.{length-set}

@@ -1,8 +1,8 @@
 -- `analysis_f32::lists::analyse` meets its contract. Where the answer is done every test passed, which gives the work what it asks for; on any other answer nothing was written.
 use Rattle.analysis.specs.Analyses.{number_of}
 use Rattle.analysis.specs.Tested.{analysing, done_alone}
-use Rattle.numbers.specs.Tests.{kept, other, refused}
-use mathlib.Core.Path.{◌∙◌, refl, sym}
+use Rattle.numbers.specs.Tests.{kept, refused}
+use mathlib.Core.Path.{◌∙◌, sym}
 use Rattle.analysis_f32.proofs.lists.analyse.Goals as goal
 
 pub returns-in_default : goal.returns-in_default
@@ -16,8 +16,8 @@ line_bands-requires c = let p = analysing _ _ _ _ _ (sym c.analysis_answer-answe
 
 pub returns : goal.returns
 returns c = record {
-      answer = sym c.in-Done.is ∙ c.analysis_answer-answer.ensures;
-      approxes = c.line_bands.ensures.0;
-      details = c.line_bands.ensures.1;
-      scratched = c.line_bands.ensures.2;
-    }
+  answer = sym c.in-Done.is ∙ c.analysis_answer-answer.ensures;
+  approxes = c.line_bands.ensures.0;
+  details = c.line_bands.ensures.1;
+  scratched = c.line_bands.ensures.2;
+}

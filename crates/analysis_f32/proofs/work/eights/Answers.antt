@@ -16,14 +16,14 @@ loop-i-init c = (search rules, search rules, search rules, written_start _ _, wr
 
 pub loop-i-preserved : goal.loop-i-preserved
 loop-i-preserved c = let a = c.args in let low = a.low.now in let high = a.high.now in let line = a.padded.now in let sums = c.eight-sums.result in (
-      omega (arith, c.loop-i-test.true),
-      c.put.auto.out ∙ c.loop-i.invariant.1,
-      c.put-in-loop-i.auto.out ∙ c.loop-i.invariant.2,
-      written_run (band_of binary32 low a.f line) c.loop-i.i 8 a.approx.now (at sums.approx) (omega (arith, c.loop-i-test.true)) c.loop-i.invariant.3
-          (sums_at_lem binary32 low line a.f c.loop-i.i 8 c.eight-sums.ensures.0) c.put.ensures,
-      written_run (band_of binary32 high a.f line) c.loop-i.i 8 a.detail.now (at sums.detail) (omega (arith, c.loop-i-test.true, c.requires.both)) c.loop-i.invariant.4
-          (sums_at_lem binary32 high line a.f c.loop-i.i 8 c.eight-sums.ensures.1) c.put-in-loop-i.ensures,
-    )
+  omega (arith, c.loop-i-test.true),
+  c.put.auto.out ∙ c.loop-i.invariant.1,
+  c.put-in-loop-i.auto.out ∙ c.loop-i.invariant.2,
+  written_run (band_of binary32 low a.f line) c.loop-i.i 8 a.approx.now (at sums.approx) (omega (arith, c.loop-i-test.true)) c.loop-i.invariant.3
+      (sums_at_lem binary32 low line a.f c.loop-i.i 8 c.eight-sums.ensures.0) c.put.ensures,
+  written_run (band_of binary32 high a.f line) c.loop-i.i 8 a.detail.now (at sums.detail) (omega (arith, c.loop-i-test.true, c.requires.both)) c.loop-i.invariant.4
+      (sums_at_lem binary32 high line a.f c.loop-i.i 8 c.eight-sums.ensures.1) c.put-in-loop-i.ensures,
+)
 
 pub returns : goal.returns
 returns c = (c.loop-i.invariant.0, c.loop-i.invariant.3, c.loop-i.invariant.4)

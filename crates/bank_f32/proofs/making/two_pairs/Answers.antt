@@ -11,9 +11,9 @@ use Rattle.bank_f32.proofs.making.two_pairs.Goals.{In-Done}
 
 pub returns-in_default : goal.returns-in_default
 returns-in_default c = record {
-      answer = c.refused.ensures.0 ∙ sym c.in_default.is ∙ c.pairs_answer-answer.ensures;
-      made = refused_bank _ c.refused.ensures.0 c.refused.ensures.1;
-    }
+  answer = c.refused.ensures.0 ∙ sym c.in_default.is ∙ c.pairs_answer-answer.ensures;
+  made = refused_bank _ c.refused.ensures.0 c.refused.ensures.1;
+}
 
 -- the lists where the test passed
 lists : (c : In-Done) → let a = c.args in

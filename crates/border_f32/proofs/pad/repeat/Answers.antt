@@ -1,6 +1,5 @@
 -- `border_f32::pad::repeat` meets its contract: each turn writes one place more.
 use mathlib.Core.Path.{refl}
-use Prim.Native.Nat.{◌-◌}
 use native.Mathlib.Omega.{arith}
 use lib.ListN.{length-set}
 use borrow.Author.Rules.{rules}

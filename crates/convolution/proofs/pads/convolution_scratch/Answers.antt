@@ -1,7 +1,7 @@
 -- `convolution::pads::convolution_scratch` meets its contract: the tests are the definition's, in its order, and the pads its pads.
 use Rattle.convolution.specs.declared.pads.Scratch.{Scratch}
 use Prim.Native.Nat.{◌≤◌}
-use Rattle.convolution.specs.Pads.{beyond, centre_of}
+use Rattle.convolution.specs.Pads.{centre_of}
 use Rattle.convolution.specs.Places.{nears, within, back}
 use Rattle.convolution.specs.Sizes.{ScratchSized, size_of}
 use Rattle.convolution.specs.Tested.{kernel_of}

@@ -5,7 +5,6 @@ use mir.Syntax.{w64}
 use lib.IntN.{ℤ, nat_abs, pos}
 use native.Mathlib.Omega.{arith}
 use mathlib.Core.Path.{sym, ap, ◌∙◌}
-use Rattle.numbers.specs.Words.{at}
 use Rattle.convolution.proofs.pads.split.Goals as goal
 
 pub overflow_sub-result : goal.overflow_sub-result

@@ -2,8 +2,8 @@
 use Rattle.analysis.specs.Analyses.{number_of}
 use Rattle.analysis.specs.Tested.{done_alone}
 use Rattle.direct_analysis.specs.Tested.{direct, passed_taps}
-use Rattle.numbers.specs.Tests.{kept, other, refused}
-use mathlib.Core.Path.{◌∙◌, refl, sym}
+use Rattle.numbers.specs.Tests.{kept, refused}
+use mathlib.Core.Path.{◌∙◌, sym}
 use Rattle.direct_analysis.proofs.lists.analyse.Goals as goal
 
 pub returns-in_default : goal.returns-in_default
@@ -17,7 +17,7 @@ bands-requires c = let d = sym c.direct_answer-answer.ensures ∙ c.in-Done.is i
 
 pub returns : goal.returns
 returns c = record {
-      answer = sym c.in-Done.is ∙ c.direct_answer-answer.ensures;
-      approxes = c.bands.ensures.0;
-      details = c.bands.ensures.1;
-    }
+  answer = sym c.in-Done.is ∙ c.direct_answer-answer.ensures;
+  approxes = c.bands.ensures.0;
+  details = c.bands.ensures.1;
+}

@@ -1,6 +1,5 @@
 -- `gathering::seconds::put_seconds` meets its contract: each turn writes the next second place.
 use borrow.Author.Rules.{rules}
-use Prim.Native.Nat.{◌-◌}
 use mathlib.Core.Path.{refl}
 use lib.ListN.{length, length-set}
 use native.Mathlib.Omega.{arith}

@@ -1,7 +1,6 @@
 -- `isferghul_restore_levels` meets its contract: it tells what the entry promises of these lists, and where it is done which buffer holds the line and how long it is.
 use Rattle.bank.specs.Pairs.{counted_lists}
 use Rattle.packed.specs.Lengths.{levels_of}
-use Rattle.packed.specs.Answers.{number_of, values_of}
 use Rattle.packed.specs.Tested.{done_alone, first_line}
 use Rattle.restoring.specs.Tested.{restoring}
 use Rattle.telling.specs.Telling.{told_of}

@@ -1,7 +1,7 @@
 -- What each turn of `digits::decimal` keeps, and what falls with each.
 use mathlib.Core.Path.{◌≡◌}
 use mathlib.Core.List.{[], ◌∷◌, ◌++◌}
-use Prim.Native.Nat.{◌<◌, ◌+◌, ◌-◌, ◌^◌}
+use Prim.Native.Nat.{◌<◌, ◌+◌, ◌^◌}
 use lib.ListN.{length, drop}
 use Rattle.texts.specs.Texts.{newline, digits_of, decimal}
 use Rattle.laying.proofs.digits.decimal.Given as goal

@@ -2,11 +2,11 @@
 use Prim.Native.Nat.{ℕ}
 use Rattle.levels.specs.Lines.{packed_line, padded_lines}
 use Rattle.levels.specs.Tested.{splitting}
-use Rattle.numbers.specs.Tests.{kept, other, refused}
+use Rattle.numbers.specs.Tests.{kept, refused}
 use Rattle.packed.specs.Answers.{number_of}
 use Rattle.packed.specs.Tested.{done_alone}
 use lib.Ieee.{binary64}
-use mathlib.Core.Path.{◌∙◌, ap, refl, sym}
+use mathlib.Core.Path.{◌∙◌, ap, sym}
 use Rattle.levels.proofs.lists.analyse_levels.Goals as goal
 
 pub returns-in_default : goal.returns-in_default

@@ -30,15 +30,15 @@ ended n f levels k start line e p q = rw (← e) (omega (arith, p, q))
 
 pub loop-k-init : goal.loop-k-init
 loop-k-init c = let a = c.args in (
-      search rules,
-      details_none (length a.line.now) a.f,
-      line_none (length a.line.now) a.f,
-      refl,
-      refl,
-      details_start binary64 a.low.now a.high.now a.f a.border a.line.now a.packed.now,
-      line_start binary64 a.low.now a.f a.border a.line.now a.packed.now,
-      scratch_start binary64 a.low.now a.f a.border a.line.now a.scratch.now,
-    )
+  search rules,
+  details_none (length a.line.now) a.f,
+  line_none (length a.line.now) a.f,
+  refl,
+  refl,
+  details_start binary64 a.low.now a.high.now a.f a.border a.line.now a.packed.now,
+  line_start binary64 a.low.now a.f a.border a.line.now a.packed.now,
+  scratch_start binary64 a.low.now a.f a.border a.line.now a.scratch.now,
+)
 
 pub pad_level-requires : goal.pad_level-requires
 pad_level-requires c = let t = (lengths (goal.at.pad_level-requires c).In-loop-k).held in

@@ -1,6 +1,6 @@
 -- `numbers_f32::copying::copy_eights` meets its contract: each turn copies the next eight, and the places begun are eights.
 use mathlib.Core.Path.{◌∙◌, ap}
-use Prim.Native.Nat.{◌+◌, ◌-◌}
+use Prim.Native.Nat.{◌+◌}
 use lib.Ieee.{nan}
 use lib.ListN.{get_or}
 use Rattle.numbers.specs.Words.{placed}

@@ -1,6 +1,5 @@
 -- `numbers_f32::copying::copy_to` meets its contract: each turn copies the next sample.
 use mathlib.Core.Path.{refl}
-use Prim.Native.Nat.{◌-◌}
 use native.Mathlib.Omega.{arith}
 use lib.ListN.{length, get_or, length-set}
 use lib.Ieee.{nan}

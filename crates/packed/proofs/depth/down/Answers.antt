@@ -1,7 +1,6 @@
 -- `packed::depth::down` meets its contract: each turn goes down one level, which has a line to split, and the lengths stay under the limit's.
 use borrow.Author.Rules.{rules}
-use borrow.Author.Tests.{leb-true, leb-false}
-use Prim.Native.Nat.{ℕ, ◌+◌, ◌-◌, ◌*◌, ◌≤◌}
+use Prim.Native.Nat.{ℕ, ◌+◌, ◌*◌, ◌≤◌}
 use Rattle.bank.specs.Lengths.{pairs, Sound}
 use Rattle.packed.specs.Lengths.{line_after, too_short, details_to}
 use Rattle.packed.specs.Falls.{line_none, line_next, details_none, details_next, short_none, short_next, fallen}

@@ -2,7 +2,6 @@
 use borrow.Author.Rules.{rules}
 use borrow.Author.Count.{below_none, below_more}
 use mathlib.Core.Path.{◌≡◌, sym, ◌∙◌}
-use Prim.Native.Nat.{◌-◌}
 use native.Mathlib.Omega.{arith}
 use Rattle.parting.specs.Partings.{parts_at}
 use Rattle.parting.specs.Firsts.{both_have, part_first, part_end}

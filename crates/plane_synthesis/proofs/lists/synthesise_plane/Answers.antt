@@ -1,7 +1,7 @@
 -- `plane_synthesis::lists::synthesise_plane` meets its contract. Where the answer is done every test passed, which gives the work what it asks for; on any other answer nothing was written.
 use native.Mathlib.Omega.{arith}
-use mathlib.Core.Path.{◌∙◌, refl, sym}
-use Rattle.numbers.specs.Tests.{other, refused, kept}
+use mathlib.Core.Path.{◌∙◌, sym}
+use Rattle.numbers.specs.Tests.{refused, kept}
 use Rattle.planes.specs.Answers.{number_of}
 use Rattle.planes.specs.Tested.{done_alone, untouched, touched}
 use Rattle.plane_synthesis.specs.Tested.{synthesising}

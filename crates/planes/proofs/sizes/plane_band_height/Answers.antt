@@ -1,5 +1,5 @@
 -- `planes::sizes::plane_band_height` meets its contract: it is refused where the tests refuse, and else it is the length.
-use mathlib.Core.Path.{◌∙◌, refl, sym, ap}
+use mathlib.Core.Path.{◌∙◌, sym, ap}
 use native.Mathlib.Omega.{arith}
 use Rattle.planes.specs.declared.sizes.PlaneSize.TheVariants.{Length, Refused}
 use Rattle.planes.specs.Tested.{stopped, went_on, asked_done}

@@ -1,13 +1,13 @@
 -- `restoring::lists::restore_divided` meets its contract. Where the answer is done every test passed, which gives the work what it asks for; on any other answer nothing was written.
 use Prim.Native.Nat.{ℕ}
-use Rattle.numbers.specs.Tests.{kept, other}
+use Rattle.numbers.specs.Tests.{kept}
 use Rattle.dividing.specs.Divisions.{divided}
 use Rattle.restoring.specs.Lines.{first_by, second_by}
 use Rattle.restoring.specs.Dividings.{number_of}
 use Rattle.restoring.specs.Tested.{restoring}
 use Rattle.restoring.specs.TestedDivided.{divided_done, divided_refused}
 use lib.Ieee.{binary64}
-use mathlib.Core.Path.{◌∙◌, ap, refl, sym}
+use mathlib.Core.Path.{◌∙◌, ap, sym}
 use Rattle.restoring.proofs.lists.restore_divided.Goals as goal
 
 pub returns-in_default : goal.returns-in_default

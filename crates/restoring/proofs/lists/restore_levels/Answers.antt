@@ -1,12 +1,12 @@
 -- `restoring::lists::restore_levels` meets its contract. Where the answer is done every test passed, which gives the work what it asks for; on any other answer nothing was written.
 use Prim.Native.Nat.{ℕ}
-use Rattle.numbers.specs.Tests.{kept, other, refused}
+use Rattle.numbers.specs.Tests.{kept, refused}
 use Rattle.packed.specs.Answers.{number_of}
 use Rattle.packed.specs.Tested.{done_alone}
 use Rattle.restoring.specs.Lines.{first_after, second_after}
 use Rattle.restoring.specs.Tested.{restoring}
 use lib.Ieee.{binary64}
-use mathlib.Core.Path.{◌∙◌, ap, refl, sym}
+use mathlib.Core.Path.{◌∙◌, ap, sym}
 use Rattle.restoring.proofs.lists.restore_levels.Goals as goal
 
 pub returns-in_default : goal.returns-in_default

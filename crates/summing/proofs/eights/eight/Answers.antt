@@ -1,6 +1,5 @@
 -- `summing::eights::eight` meets its contract: after j taps both lists hold the sums of j taps of eight places.
 use borrow.Author.Rules.{rules}
-use Prim.Native.Nat.{◌-◌}
 use mathlib.Core.Path.{◌∙◌, ap}
 use lib.ListN.{length}
 use lib.Ieee.{binary64}

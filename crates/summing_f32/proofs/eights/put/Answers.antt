@@ -1,6 +1,5 @@
 -- `summing_f32::eights::put` meets its contract: each turn puts one sum.
 use borrow.Author.Rules.{rules}
-use Prim.Native.Nat.{◌-◌}
 use mathlib.Core.Path.{refl}
 use lib.ListN.{length-set}
 use Rattle.numbers.specs.Words.{at}

@@ -1,8 +1,8 @@
 -- `synthesis::lists::synthesise` meets its contract. Where the answer is done every test passed, which gives the work what it asks for; on any other answer nothing was written.
 use Rattle.synthesis.specs.Syntheses.{number_of}
 use Rattle.synthesis.specs.Tested.{joinable, done_alone}
-use Rattle.numbers.specs.Tests.{kept, other, refused}
-use mathlib.Core.Path.{◌∙◌, refl, sym}
+use Rattle.numbers.specs.Tests.{kept, refused}
+use mathlib.Core.Path.{◌∙◌, sym}
 use Rattle.synthesis.proofs.lists.synthesise.Goals as goal
 
 pub returns-in_default : goal.returns-in_default

@@ -1,6 +1,6 @@
 -- `tables::work::cross` meets its contract: tile beside tile is crossed, and all of them are the crossing.
 use borrow.Author.Rules.{rules}
-use Prim.Native.Nat.{◌+◌, ◌-◌, ◌≤◌}
+use Prim.Native.Nat.{◌+◌, ◌≤◌}
 use native.Mathlib.Omega.{arith}
 use mathlib.Core.Path.{◌∙◌}
 use mathlib.Core.Logic.{inr}

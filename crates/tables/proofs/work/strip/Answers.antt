@@ -1,5 +1,5 @@
 -- `tables::work::strip` meets its contract: each turn carries the crossing of its lines one place further.
-use Prim.Native.Nat.{ℕ, ◌+◌, ◌-◌, ◌*◌, ◌≤◌, ◌<◌}
+use Prim.Native.Nat.{ℕ, ◌+◌, ◌*◌, ◌≤◌, ◌<◌}
 use native.Mathlib.Nat.{mul_comm, mul-le-mul_right}
 use native.Mathlib.Omega.{arith}
 use mathlib.Core.Path.{◌≡◌, subst}
@@ -51,11 +51,11 @@ loop-c-smaller c = omega (arith, c.loop-c-test.true)
 
 pub loop-c-preserved : goal.loop-c-preserved
 loop-c-preserved c = let a = c.args in (
-      omega (arith, c.loop-c.invariant.0),
-      omega (arith, c.loop-c-test.true),
-      omega (arith, c.loop-c.invariant.2, one_more c.loop-c.c a.lines),
-      crossed_turn a.lines a.n a.r a.count a.left a.right c.loop-c.c c.loop-c.to a.s.now c.loop-c.s c.requires c.loop-c.invariant.0 (omega (arith, c.loop-c-test.true, c.requires.inside)) c.loop-c.invariant.2 c.loop-c.invariant.3 c.gather.ensures,
-    )
+  omega (arith, c.loop-c.invariant.0),
+  omega (arith, c.loop-c-test.true),
+  omega (arith, c.loop-c.invariant.2, one_more c.loop-c.c a.lines),
+  crossed_turn a.lines a.n a.r a.count a.left a.right c.loop-c.c c.loop-c.to a.s.now c.loop-c.s c.requires c.loop-c.invariant.0 (omega (arith, c.loop-c-test.true, c.requires.inside)) c.loop-c.invariant.2 c.loop-c.invariant.3 c.gather.ensures,
+)
 
 pub shape_of-s : goal.shape_of-s
 shape_of-s c = c.loop-c.invariant.3.long
