@@ -49,7 +49,7 @@ ENTRIES = [
     'questions::on_banks::made',
     'questions::on_pairs::back_by_pairs',
 ]
-# Crates whose narrow items stand beside the wide ones, in files of their own, each with the narrow files that are written by hand: the exports of one archive stand in one crate, and one crate replays the lists.
+# Crates whose narrow items stand beside the wide ones, in files of their own, each with the narrow files that are written by hand: the exports of one archive stand in one crate (what C links to, isferghul_c, is by hand: each only calls), and one crate replays the lists.
 BESIDE = {'isferghul': [], 'questions': ['asking', 'bits', 'on_lines']}
 WORD = r'[A-Za-z_][A-Za-z_0-9]*'
 ITEM = re.compile(r'^(?:pub )?(?:extern "C" )?(?:fn|enum|struct|const) (%s)' % WORD)
@@ -67,7 +67,7 @@ class Item:
         self.code = CLAUSE.sub('', every)
         self.words = set(re.findall(WORD, self.code)) | set(re.findall(r'\b[A-Z]\w*', every))
         self.wide = 'f64' in self.words
-        self.exported = 'extern "C"' in self.code
+        self.exported = name.startswith('isferghul_')
         self.by_hand = ''.join(file.module) in BESIDE.get(file.crate, [])
 
     def named(self):

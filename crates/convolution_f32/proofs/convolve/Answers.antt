@@ -4,7 +4,7 @@ use Rattle.convolution.specs.declared.Convolution.TheVariants.{Done, InOutSizesM
 use Rattle.convolution.specs.Convolutions.{number_of, answer_of}
 use Rattle.border.specs.declared.Border.{Border}
 use Prim.Native.Nat.{◌<◌, ◌+◌, ℕ}
-use Rattle.convolution.specs.Sums.{convolved, convolution}
+use Rattle.convolution.specs.Sums.{convolution}
 use Rattle.convolution.specs.Tested.{Convolving, convolving, copying, pads}
 use Rattle.numbers.specs.Tests.{kept}
 use lib.Dec.{lit<}
@@ -13,7 +13,7 @@ use lib.ListN.{length, take}
 use mathlib.Core.Path.{◌∙◌, ◌≡◌, refl, ap, sym, subst}
 use native.Mathlib.Omega.{arith}
 use Rattle.convolution.specs.Pads.{centre_of, left_pad, needed, right_pad}
-use Rattle.convolution.specs.Places.{back, wide, within}
+use Rattle.convolution.specs.Places.{back, wide}
 use Rattle.convolution.specs.Turns.{copied, of_samples_lem}
 use borrow.Author.Tests.{eq-eqb, ne_eqb}
 use lib.Seq.{length-take-le}

@@ -1,6 +1,6 @@
 -- `analysis_f32::work::bands` meets its contract: each turn writes one place of both bands, which is the pair of sums there.
 use borrow.Author.Rules.{rules}
-use Prim.Native.Nat.{ℕ, ◌-◌, ◌≤◌}
+use Prim.Native.Nat.{ℕ, ◌≤◌}
 use Rattle.numbers.specs.Words.{tab, written}
 use Rattle.numbers.specs.Write.{written_full, written_step}
 use Rattle.numbers.specs.Runs.{written_again}

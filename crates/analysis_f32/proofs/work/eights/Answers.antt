@@ -1,6 +1,5 @@
 -- `analysis_f32::work::eights` meets its contract: each turn puts eight places of both bands.
 use borrow.Author.Rules.{rules}
-use Prim.Native.Nat.{◌-◌}
 use mathlib.Core.Path.{◌∙◌}
 use lib.Ieee.{binary32}
 use native.Mathlib.Omega.{arith}

@@ -1,6 +1,5 @@
 -- `bank_f32::work::held` meets its contract: the loop writes the taps over zeros from the front, one a turn.
 use borrow.Author.Rules.{rules}
-use Prim.Native.Nat.{◌-◌}
 use Rattle.bank.specs.Banks.{zeros}
 use Rattle.numbers.specs.Tests.{literal_zero}
 use Rattle.numbers.specs.Write.{written_end, written_start, written_step}

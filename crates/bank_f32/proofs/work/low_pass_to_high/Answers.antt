@@ -1,7 +1,6 @@
 -- `bank_f32::work::low_pass_to_high` meets its contract: the loop writes the mirrored taps over zeros from the front, one a turn.
 use borrow.Author.Rules.{rules}
-use Prim.Native.Nat.{◌-◌}
-use Rattle.bank.specs.Banks.{signed, zeros}
+use Rattle.bank.specs.Banks.{zeros}
 use Rattle.numbers.specs.Tests.{literal_zero}
 use Rattle.numbers.specs.Write.{written_end, written_start, written_step}
 use lib.Ieee.{binary32}

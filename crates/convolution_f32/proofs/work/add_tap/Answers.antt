@@ -1,6 +1,5 @@
 -- `convolution_f32::work::add_tap` meets its contract: each turn adds one product to one sum.
 use borrow.Author.Rules.{rules}
-use Prim.Native.Nat.{◌-◌}
 use Rattle.convolution.specs.Works.{more, product}
 use Rattle.numbers.specs.Words.{at}
 use Rattle.numbers.specs.Write.{written_full, written_start, written_step}

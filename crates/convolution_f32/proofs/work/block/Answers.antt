@@ -1,6 +1,5 @@
 -- `convolution_f32::work::block` meets its contract: before tap i each sum holds the products of the taps before it, the first of which started it.
 use borrow.Author.Rules.{rules}
-use Prim.Native.Nat.{◌-◌}
 use Rattle.convolution.specs.Turns.{put, sums_end, sums_start, sums_step}
 use Rattle.convolution.specs.Works.{place_of}
 use lib.Ieee.{binary32, nan}

@@ -1,6 +1,5 @@
 -- `convolution_f32::work::fours` meets its contract: as `sixteens`.
 use borrow.Author.Rules.{rules}
-use Prim.Native.Nat.{◌-◌}
 use Rattle.convolution.specs.Turns.{first_more}
 use Rattle.convolution.specs.Works.{place_of}
 use lib.Ieee.{binary32, nan}

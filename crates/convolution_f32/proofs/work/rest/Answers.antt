@@ -1,6 +1,5 @@
 -- `convolution_f32::work::rest` meets its contract: each turn puts the next place.
 use borrow.Author.Rules.{rules}
-use Prim.Native.Nat.{◌-◌}
 use Rattle.convolution.specs.Turns.{first_all, first_more}
 use Rattle.convolution.specs.Works.{place_of}
 use lib.Ieee.{binary32, nan}

@@ -1,6 +1,5 @@
 -- `convolution_f32::work::sixteens` meets its contract: each turn puts sixteen places, the last of them where the output ends if fewer are left.
 use borrow.Author.Rules.{rules}
-use Prim.Native.Nat.{◌-◌}
 use Rattle.convolution.specs.Turns.{first_more, first_none}
 use Rattle.convolution.specs.Works.{place_of}
 use lib.Ieee.{binary32, nan}

@@ -1,6 +1,5 @@
 -- `convolution_f32::work::start` meets its contract: each turn writes one product.
 use borrow.Author.Rules.{rules}
-use Prim.Native.Nat.{◌-◌}
 use Rattle.convolution.specs.Works.{product}
 use Rattle.numbers.specs.Write.{written_full, written_start, written_step}
 use lib.Ieee.{binary32}
