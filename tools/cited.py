@@ -2,7 +2,8 @@
 
     python3 tools/cited.py
 
-A definition is cited in backquotes, as `crate/File: name` or `crate/File: a, b`: it stands in crates/CRATE/specs/FILE.antt."""
+A definition is cited in backquotes, as `crate/File: name` or `crate/File: a, b`: it stands in crates/CRATE/specs/FILE.antt,
+or, a theorem of which a must-fail edit changes a definition, in crates/CRATE/proofs/FILE.antt."""
 import pathlib
 import re
 import sys
@@ -23,12 +24,18 @@ def place(path, text, at):
     return '%s:%d' % (path.relative_to(ROOT), text.count('\n', 0, at) + 1)
 
 
+def stands(crate, file):
+    """Where its names stand: in specs/, or in proofs/."""
+    places = [ROOT / 'crates' / crate / folder / (file + '.antt') for folder in ('specs', 'proofs')]
+    return next((path for path in places if path.exists()), places[0])
+
+
 def citations(page):
     """For each name that a page cites, what is wrong about it, or None."""
     text = page.read_text()
     for cited in CITED.finditer(text):
         crate, file, names = cited.groups()
-        path = ROOT / 'crates' / crate / 'specs' / (file + '.antt')
+        path = stands(crate, file)
         known = {name for names in DEFINED.findall(path.read_text()) for name in names} if path.exists() else set()
         for name in re.split(r',\s*', names):
             wrong = 'does not define %s' % name if path.exists() else 'is cited for %s and does not exist' % name

@@ -1,5 +1,5 @@
 -- Restoring is exact. Definitions: Restoring, both statements; Classes, the condition of four lists; Backs, what running there and back promises.
--- Laws: Weights, Moved, Distances, Reach, Identity, Signs, Mirror, Bounds, Four, Exact, the proof; Made, of banks; Entries, Calls, Unique, of the code.
+-- Laws: Weights, Moved, Distances, Reach, Identity, Signs, Mirror, Bounds; Made, of banks; Unique, of the code. The proof of the statements stands in proofs/: a wrong statement is then refused by it.
 pub mod Restoring
 pub mod Classes
 pub mod Backs
@@ -11,9 +11,5 @@ pub mod Identity
 pub mod Signs
 pub mod Mirror
 pub mod Bounds
-pub mod Four
-pub mod Exact
 pub mod Made
-pub mod Entries
-pub mod Calls
 pub mod Unique

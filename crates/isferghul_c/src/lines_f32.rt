@@ -1,4 +1,4 @@
-// crates/isferghul/src/lines.rt of 32-bit floats, made by tools/narrow.py: the exports, each that of its name in `isferghul`.
+// One line of 32-bit floats, for C: the exports, each that of its name in `isferghul`.
 ghost use Rattle.std.specs.Float.{binary32};
 ghost use Rattle.isferghul.specs.Lines.{AnalysisTold, SynthesisTold, ConvolutionTold};
 

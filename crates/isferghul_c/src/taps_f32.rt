@@ -1,4 +1,4 @@
-// crates/isferghul/src/taps.rt of 32-bit floats, made by tools/narrow.py: the exports, each that of its name in `isferghul`.
+// Taps of 32-bit floats, for C: the exports, each that of its name in `isferghul`.
 ghost use Rattle.isferghul.specs.Lines.{MirrorTold};
 
 use isferghul::taps_f32;

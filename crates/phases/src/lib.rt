@@ -54,6 +54,9 @@ fn fresh(c: u8) -> Phase
     start(c)
 }
 
+// The largest size of a number.
+const MOST: u32 = 1000000;
+
 // A digit more: none behind a 0 in front, and none that makes more than 1,000,000.
 fn grow(negative: bool, size: u32, c: u8) -> Phase
     ensures { result ≡ grown negative size c }
@@ -71,7 +74,7 @@ fn grow(negative: bool, size: u32, c: u8) -> Phase
         return Phase::Broken;
     }
     let more = size * 10 + (c as u32 - 48);
-    if 1000000 < more {
+    if MOST < more {
         return Phase::Broken;
     }
     Phase::Number {

@@ -25,7 +25,7 @@ use Rattle.packed.specs.Lengths.{too_short}
 use Rattle.exact.specs.Restoring.{squares, sizes, shifted, tap_at, crossed, weight, largest_sizes, WholeTaps}
 use Rattle.exact.specs.Made.{made_taps, made_highs}
 use Rattle.exact_levels.specs.Through.{whole_line, Bounded, Regained}
-use Rattle.exact_levels.specs.Steps.{through_exact}
+use Rattle.exact_levels.proofs.Steps.{through_exact}
 use Rattle.worked.specs.Meeting.{every, under_each, taps_meet, samples_meet, bound_meets, taps_held, held_by, meeting, Met, same_ℤ, long_alike, weights_meet, pairs_held, pairs_bound, pairs_meeting, PairsMet, largest_of, line_meets, divisor_meets, through_meeting, MetThrough, back_through}
 
 every_says : (n : ℕ) (p : ℕ → Bool) → every n p ≡ true → (i : ℕ) → i < n → p i ≡ true

@@ -2,7 +2,7 @@
 use mathlib.Core.Path.{sym, ◌∙◌}
 use Rattle.analysis.specs.contracts.Analysis as analysis
 use Rattle.synthesis.specs.contracts.Synthesis as synthesis
-use Rattle.exact.specs.Calls.{there_refused, back_refused, both_done}
+use Rattle.exact.proofs.Calls.{there_refused, back_refused, both_done}
 use Rattle.exact.proofs.back_answer.Goals as goal
 
 pub returns-in_default : goal.returns-in_default

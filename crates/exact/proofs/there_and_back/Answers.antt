@@ -1,6 +1,6 @@
 -- `exact::there_and_back` meets its contract by the promises of both ways over lists: a refusal leaves all as it was, and what is done is one way's work after the other's.
 use lib.Ieee.{binary64}
-use Rattle.exact.specs.Calls.{returned_refused, returned_done}
+use Rattle.exact.proofs.Calls.{returned_refused, returned_done}
 use Rattle.exact.proofs.there_and_back.Goals as goal
 
 pub returns-in_default : goal.returns-in_default

@@ -1,5 +1,5 @@
 -- `exact_levels::there_and_back_levels` meets its contract by the promises of both entries: a refusal leaves all as it was, and what is done is one way's work after the other's.
-use Rattle.exact_levels.specs.Calls.{back_kept, back_given}
+use Rattle.exact_levels.proofs.Calls.{back_kept, back_given}
 use Rattle.exact_levels.proofs.there_and_back_levels.Goals as goal
 
 pub returns-in_default : goal.returns-in_default

@@ -19,8 +19,10 @@ returns-then-size-gt100000 c = let a = c.args in
     let large = lt-ltb greatest (a.size * 10 + (a.c - 48)) (omega (arith, c.if-size-gt100000.true)) in
     simp (le-ltb _ _ c.if-c-lt48.false, le-ltb _ _ c.if-c-gt57.false, ne_eqb _ _ c.if-size-eq0.false, large)
 
-pub returns-then-more-gt1000000 : goal.returns-then-more-gt1000000
-returns-then-more-gt1000000 c = simp (le-ltb _ _ c.if-c-lt48.false, le-ltb _ _ c.if-c-gt57.false, ne_eqb _ _ c.if-size-eq0.false, lt-ltb _ _ c.if-more-gt1000000.true)
+pub returns-then-more-gt-MOST : goal.returns-then-more-gt-MOST
+returns-then-more-gt-MOST c = let a = c.args in
+    let large = lt-ltb greatest (a.size * 10 + (a.c - 48)) (omega (arith, c.if-more-gt-MOST.true)) in
+    simp (le-ltb _ _ c.if-c-lt48.false, le-ltb _ _ c.if-c-gt57.false, ne_eqb _ _ c.if-size-eq0.false, large)
 
 pub returns : goal.returns
-returns c = simp (le-ltb _ _ c.if-c-lt48.false, le-ltb _ _ c.if-c-gt57.false, ne_eqb _ _ c.if-size-eq0.false, le-ltb _ _ c.if-more-gt1000000.false)
+returns c = simp (le-ltb _ _ c.if-c-lt48.false, le-ltb _ _ c.if-c-gt57.false, ne_eqb _ _ c.if-size-eq0.false, le-ltb greatest (c.args.size * 10 + (c.args.c - 48)) (omega (arith, c.if-more-gt-MOST.false)))

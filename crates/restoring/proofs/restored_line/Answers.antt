@@ -31,10 +31,12 @@ restoring_need-length-requires c = let a = c.args in
     first_line {levels = a.levels} (record { sound = (all (goal.at.restoring_need-length-requires c).In-Done).packs.sound; long = (all (goal.at.restoring_need-length-requires c).In-Done).packs.long })
 
 pub slice_bounds-result-end-then-most-eq0 : goal.slice_bounds-result-end-then-most-eq0
-slice_bounds-result-end-then-most-eq0 c = sym (length-take-le _ _ (omega (arith, c.restoring_need-length.ensures, (all (goal.at.slice_bounds-result-end-then-most-eq0 c).In-Done).space, c.restore_levels-answer.auto.second)))
+slice_bounds-result-end-then-most-eq0 c = let w = all (goal.at.slice_bounds-result-end-then-most-eq0 c).In-Done in
+    sym (length-take-le _ _ (omega (arith, c.restoring_need-length.ensures, w.room, w.space, c.restore_levels-answer.auto.first, c.restore_levels-answer.auto.second)))
 
 pub slice_bounds-result-end-else-most-eq0 : goal.slice_bounds-result-end-else-most-eq0
-slice_bounds-result-end-else-most-eq0 c = sym (length-take-le _ _ (omega (arith, c.restoring_need-length.ensures, (all (goal.at.slice_bounds-result-end-else-most-eq0 c).In-Done).room, c.restore_levels-answer.auto.first)))
+slice_bounds-result-end-else-most-eq0 c = let w = all (goal.at.slice_bounds-result-end-else-most-eq0 c).In-Done in
+    sym (length-take-le _ _ (omega (arith, c.restoring_need-length.ensures, w.room, w.space, c.restore_levels-answer.auto.first, c.restore_levels-answer.auto.second)))
 
 pub returns-then-most-eq0 : goal.returns-then-most-eq0
 returns-then-most-eq0 c = let a = c.args in

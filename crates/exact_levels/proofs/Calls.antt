@@ -25,7 +25,7 @@ use Rattle.exact_levels.specs.declared.LevelsBack.TheVariants as way
 use Rattle.exact_levels.specs.Through.{ThroughPremises, Regained}
 use Rattle.exact_levels.specs.Backs.{number_of, answer_of, ThereAndBack}
 use Rattle.exact_levels.specs.Squares.{divisor_good}
-use Rattle.exact_levels.specs.Steps.{through_exact}
+use Rattle.exact_levels.proofs.Steps.{through_exact}
 use Rattle.exact_levels.specs.Tested.{both_done, decided, met}
 
 -- an even number of taps gives as many places as there are samples, or one more

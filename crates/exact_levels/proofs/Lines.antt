@@ -21,7 +21,7 @@ use Rattle.levels.specs.Steps.{length-line}
 use Rattle.exact.specs.Restoring.{sizes, Premises}
 use Rattle.exact.specs.Classes.{analysed_ℤ}
 use Rattle.exact.specs.Bounds.{bound_band}
-use Rattle.exact.specs.Four.{bands_within}
+use Rattle.exact.proofs.Four.{bands_within}
 use Rattle.exact_levels.specs.Through.{whole_line, ThroughPremises}
 use Rattle.exact_levels.specs.Signs.{band_plus}
 

@@ -14,7 +14,7 @@ use Rattle.exact.specs.Restoring.{squares, sizes, mirror, Premises, RestoringIsE
 use Rattle.exact.specs.Classes.{Restores}
 use Rattle.exact.specs.Mirror.{mirror_restores}
 use Rattle.exact.specs.Distances.{restores_here, restores_apart}
-use Rattle.exact.specs.Four.{taps_past, pairs_exact}
+use Rattle.exact.proofs.Four.{taps_past, pairs_exact}
 
 -- the high taps as whole numbers
 abbrev highs : List ℤ → List ℤ

@@ -15,8 +15,8 @@ use Rattle.synthesis.specs.declared.Synthesis.TheVariants as synthesis
 use Rattle.synthesis.specs.Syntheses as Syntheses
 use Rattle.synthesis.specs.Tested.{joinable}
 use Rattle.exact.specs.Restoring.{squares, Premises, PairPremises, Cleared, there_and_back, Restored}
-use Rattle.exact.specs.Four.{pairs_exact}
-use Rattle.exact.specs.Exact.{exact}
+use Rattle.exact.proofs.Four.{pairs_exact}
+use Rattle.exact.proofs.Exact.{exact}
 
 module _ {w : Format} {low high : List Float} {F : ℕ} {b : Border} {line approx detail scratch : List Float} {there : Analysis} {a d s : List Float}
     (p : Analyses.Analysed w low high F b line approx detail scratch there a d s) (went : there ≡ analysis.Done) where

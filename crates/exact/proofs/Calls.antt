@@ -22,7 +22,7 @@ use Rattle.synthesis.specs.Tested.{joined_done, done_alone as done-synthesis}
 use Rattle.exact.specs.declared.Back.{Back}
 use Rattle.exact.specs.declared.Back.TheVariants as way
 use Rattle.exact.specs.Restoring.{Cleared}
-use Rattle.exact.specs.Entries.{approxed, detailed, approx_length, detail_length, rejoined, entries_restore, entries_restore_pairs}
+use Rattle.exact.proofs.Entries.{approxed, detailed, approx_length, detail_length, rejoined, entries_restore, entries_restore_pairs}
 use Rattle.exact.specs.Backs.{number_of, answer_of, Ruled, Returned}
 
 module _ (f n a d s o : ℕ) where

@@ -14,9 +14,9 @@ use Rattle.synthesis.specs.Runs.{length_join}
 use Rattle.dividing.specs.Divisions.{divided}
 use Rattle.dividing.specs.Divisors.{length-divided}
 use Rattle.exact.specs.Restoring.{squares, sizes, Premises, Restored, there_and_back, next}
-use Rattle.exact.specs.Four.{padded_within}
-use Rattle.exact.specs.Exact.{exact}
-use Rattle.exact.specs.Calls.{cleared_zeros}
+use Rattle.exact.proofs.Four.{padded_within}
+use Rattle.exact.proofs.Exact.{exact}
+use Rattle.exact.proofs.Calls.{cleared_zeros}
 use Rattle.exact_levels.specs.Through.{Regained}
 use Rattle.exact_levels.specs.Signs.{join_plus}
 use Rattle.exact_levels.specs.Squares.{positive, bound_samples}

@@ -22,8 +22,8 @@ use Rattle.levels.specs.Handed.{details_there, line_there}
 use Rattle.dividing.specs.Divisions.{divided}
 use Rattle.restoring.specs.Lines.{level_join, joined_by}
 use Rattle.exact_levels.specs.Through.{whole_line, ThroughPremises, Regained, LevelsRestoreExactly}
-use Rattle.exact_levels.specs.Once.{rejoined_line, once}
-use Rattle.exact_levels.specs.Lines.{line_premised, line_floats}
+use Rattle.exact_levels.proofs.Once.{rejoined_line, once}
+use Rattle.exact_levels.proofs.Lines.{line_premised, line_floats}
 
 module _ (g : Format) (b : Border) (F : ℕ) (low high s : List Float) (S : Float) (levels : ℕ) (z v : List ℤ) (A : ℕ → ℕ)
     (x : ThroughPremises g F low high b s S levels z v A) (some : 1 ≤ levels) (allowed : too_short (length s) F levels ≡ false) where
