@@ -80,9 +80,11 @@ def misnamed():
     found = {}
     for path in sorted(CALLS.glob('on_*.rt')):
         for number, call in re.findall(r'(?s)\n {8}(\d+) => (.*?)(?=\n {8}[\d_]|\n {4}\})', path.read_text(encoding='utf-8')):
-            found[int(number)] = call
+            found[int(number)] = call, path.stem.endswith('_f32')
     for op, shape in protocol.SHAPES.items():
-        called = re.search(r'\b(isferghul_)?%s\(' % shape.name, found.get(op, ''))
+        # a call of 32-bit floats goes to the function of either width, from the file whose lists are of these
+        call, narrow = found.get(op, ('', False))
+        called = narrow == shape.name.endswith('_f32') and re.search(r'\b(isferghul_)?%s(_f32)?\(' % shape.name.removesuffix('_f32'), call)
         if op != protocol.LARGE_PLANE and not called:
             yield 'crates/questions: operation %d is not %s' % (op, shape.name)
     yield from ('crates/questions: operation %d has no name' % op for op in found if op not in protocol.SHAPES)

@@ -19,7 +19,7 @@ SILENT = re.compile(r'//[^\n]*|"[^"\n]*"|\b(?:ghost|requires|ensures)\b[^{};\n]*
 BY = re.compile(r'[/%]=?\s*(\w*)')
 CONSTANT = re.compile(r'\d|[A-Z][A-Z_]+\b')
 FLOATS = ROOT / 'crates/dividing/src/lib.rt'
-QUOTIENT = re.compile(r'(\bfn divide\(line: &mut \[f64\], s: f64\)\n(?:(?!\bfn\b).)*= line\[i\]) / s;', re.S)
+QUOTIENT = re.compile(r'(\bfn divide\(line: &mut \[f64\], s: f64\)\n(?:(?!\bfn\b).)*\*x) /= s;', re.S)
 
 
 def blank(found):

@@ -1,5 +1,5 @@
 -- Laws of both engines' bands: in buffers as long as the bands both analyses are done, so the lists that are compared are the definition's bands, twice; and what is laid and printed of a parting by another name.
-use Rattle.std.specs.Prelude.{◌≡◌, false, List, ℕ, ◌≤◌, length, take, Float}
+use Rattle.std.specs.Prelude.{◌≡◌, false, List, ℕ, ◌≤◌, length, take, Result, Float}
 use Rattle.std.proofs.Common.{sym, ap, ◌∙◌, subst, length-take-le}
 use Rattle.std.specs.Float.{binary64}
 use Rattle.numbers.specs.Tests.{renewed}
@@ -13,7 +13,7 @@ use Rattle.direct_analysis.specs.Tested.{analysed_done}
 use Rattle.parting.specs.declared.Parting.{Parting}
 use Rattle.parting.specs.Partings.{parting_of, Parted}
 use Rattle.laying.specs.Lays.{Lays}
-use Rattle.printing.specs.declared.Printing.{Printing}
+use Rattle.printing.specs.declared.PrintError.{PrintError}
 use Rattle.printing.specs.Printings.{Printed}
 use Rattle.answering.specs.Banding.{analysed_bands}
 use Rattle.agreeing.specs.Agreements.{parting_text, bank_parting}
@@ -22,7 +22,7 @@ use Rattle.agreeing.specs.Agreements.{parting_text, bank_parting}
 pub laid_as : {k k' : Parting} {out out' : List ℕ} {n : ℕ} → k ≡ k' → Lays (parting_text k') out n out' → Lays (parting_text k) out n out'
 laid_as {out = out} {out'} {n} e p = subst (λ (x : Parting). Lays (parting_text x) out n out') (sym e) p
 
-pub printed_as : {k k' : Parting} {out out' : List ℕ} {r : Printing} → k ≡ k' → Printed false (parting_text k) out r out' → Printed false (parting_text k') out r out'
+pub printed_as : {k k' : Parting} {out out' : List ℕ} {r : Result ℕ PrintError} → k ≡ k' → Printed false (parting_text k) out r out' → Printed false (parting_text k') out r out'
 printed_as {out = out} {out'} {r} e p = subst (λ (x : Parting). Printed false (parting_text x) out r out') e p
 
 -- fronts of m places are as long as each other
@@ -35,7 +35,7 @@ parting_same : {a a' d d' x x' y y' : List Float} → a ≡ a' → d ≡ d' → 
 parting_same {a} {a'} {d} {d'} {x} {x'} {y} {y'} e f g h =
     ap (λ (k : List Float). parting_of k d x y) e ∙ ap (λ (k : List Float). parting_of a' k x y) f ∙ ap (λ (k : List Float). parting_of a' d' k y) g ∙ ap (λ (k : List Float). parting_of a' d' x' k) h
 
-module _ (bank : Bank) (line p q scratch p2 q2 : List Float) (ready : Analysing bank.taps (length line) (length p) (length q) (length scratch)) (e : length p2 ≡ length p) (f : length q2 ≡ length q) where
+module _ (bank : Bank Float) (line p q scratch p2 q2 : List Float) (ready : Analysing bank.taps (length line) (length p) (length q) (length scratch)) (e : length p2 ≡ length p) (f : length q2 ≡ length q) where
   abbrev low : List Float
   low = band binary64 bank.low bank.taps bank.border line
 

@@ -1,5 +1,5 @@
 -- What `agree` prints for what it reads: where the bands of two engines part, or the number of the first test that fails. Definitions only.
-use Rattle.std.specs.Prelude.{◌≡◌, List, [], ◌∷◌, ℕ, length, Float}
+use Rattle.std.specs.Prelude.{◌≡◌, List, [], ◌∷◌, ℕ, length, Result, Float}
 use Rattle.std.specs.Float.{binary64}
 use Rattle.bank.specs.declared.Bank.{Bank}
 use Rattle.analysis.specs.Lines.{band}
@@ -8,7 +8,7 @@ use Rattle.texts.specs.Prints.{head_text, approx_word, detail_word}
 use Rattle.parting.specs.declared.Parting.{Parting}
 use Rattle.parting.specs.declared.Parting.TheVariants.{Same, Approx, Detail}
 use Rattle.parting.specs.Partings.{parting_of}
-use Rattle.printing.specs.declared.Printing.{Printing}
+use Rattle.printing.specs.declared.PrintError.{PrintError}
 use Rattle.answering.specs.Answers.{refusal_of, said_of, TextSaid}
 
 -- the word same, and the end of the line
@@ -37,7 +37,7 @@ abbrev pub Unrefused : Request → Type 0
 Unrefused q = refusal_of (length q.low) (length q.high) (length q.samples) ≡ 0
 
 -- what the entry promises
-abbrev pub TextAgreed : List ℕ → List ℕ → Printing → List ℕ → Type 0
+abbrev pub TextAgreed : List ℕ → List ℕ → Result ℕ PrintError → List ℕ → Type 0
 TextAgreed text out r out' = TextSaid agreed_text text out r out'
 
 -- bytes that hold every answer
@@ -45,5 +45,5 @@ abbrev pub room : ℕ
 room = 64
 
 -- where the bands of a line by a bank part
-abbrev pub bank_parting : Bank → List Float → Parting
+abbrev pub bank_parting : Bank Float → List Float → Parting
 bank_parting bank line = parting_from (band binary64 bank.low bank.taps bank.border line) (band binary64 bank.high bank.taps bank.border line)

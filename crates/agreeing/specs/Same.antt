@@ -1,5 +1,5 @@
 -- Laws: a text that no test refuses is answered by `same` and by nothing else, since bands do not part from themselves.
-use Rattle.std.specs.Prelude.{◌≡◌, false, List, ℕ, ◌≤◌, ltb, length, Float}
+use Rattle.std.specs.Prelude.{◌≡◌, false, List, ℕ, ◌≤◌, ltb, length, Result, Ok, Float}
 use Rattle.std.proofs.Common.{ap, ◌∙◌, subst, le-ltb}
 use Rattle.std.proofs.lemmas.List.{length-map}
 use Rattle.std.specs.Float.{binary64}
@@ -10,8 +10,7 @@ use Rattle.whole.specs.Floats.{floats}
 use Rattle.texts.specs.Texts.{Request, Stands}
 use Rattle.texts.specs.Prints.{refusal_text}
 use Rattle.parting.specs.Firsts.{same_parting}
-use Rattle.printing.specs.declared.Printing.{Printing}
-use Rattle.printing.specs.declared.Printing.TheVariants.{Done}
+use Rattle.printing.specs.declared.PrintError.{PrintError}
 use Rattle.printing.specs.Printings.{number_of, Printed}
 use Rattle.answering.specs.Answers.{refusal_of, both_text}
 use Rattle.agreeing.specs.Agreements.{same_text, parting_text, agreed_text, agreed_of, Unrefused, TextAgreed}
@@ -33,8 +32,8 @@ always_same q e =
     ∙ same_said _ _
 
 -- so the entry says it, wherever its five bytes have room
-pub says_same : {text out : List ℕ} {r : Printing} {out' : List ℕ} → TextAgreed text out r out' → (q : Request) → Stands q text → Unrefused q → 5 ≤ length out → (r ≡ Done 5) × (out' ≡ headed same_text out)
+pub says_same : {text out : List ℕ} {r : Result ℕ PrintError} {out' : List ℕ} → TextAgreed text out r out' → (q : Request) → Stands q text → Unrefused q → 5 ≤ length out → (r ≡ Ok 5) × (out' ≡ headed same_text out)
 says_same {out = out} {r} {out'} p q s e h =
     let w : Printed false same_text out r out' = subst (λ (t : List ℕ). Printed false t out r out') (always_same q e) (p.request q s) in
-    let d : r ≡ Done 5 = w.answer ∙ cond_false (ltb (length out) 5) _ _ (le-ltb (length out) 5 h) in
+    let d : r ≡ Ok 5 = w.answer ∙ cond_false (ltb (length out) 5) _ _ (le-ltb (length out) 5 h) in
     (d, renewed (headed same_text out) out (ap number_of d) w.held)

@@ -8,12 +8,12 @@ ghost use Rattle.agreeing.specs.Agreements.{TextAgreed};
 
 use crate::work::agree_text;
 use answering::{MOST_NUMBERS, MOST_PADDED, MOST_PAIRS};
-use printing::Printing;
+use printing::PrintError;
 
 // Bytes that hold every answer.
 pub const ROOM: usize = 64;
 
-pub fn agree(text: &[u8], out: &mut [u8]) -> Printing
+pub fn agree(text: &[u8], out: &mut [u8]) -> Result<usize, PrintError>
     ensures { TextAgreed text.now out.old result out.new }
 {
     let mut numbers = [0.0f64; MOST_NUMBERS];

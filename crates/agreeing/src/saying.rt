@@ -6,7 +6,7 @@ ghost use Rattle.agreeing.specs.Agreements.{parting_text};
 
 use laying::bytes;
 use parting::Parting;
-use printing::Printing;
+use printing::PrintError;
 use printing::work::head;
 
 // The text as far as the buffer reaches, and its length.
@@ -21,15 +21,15 @@ fn lay_parting(parting: Parting, out: &mut [u8]) -> usize
 }
 
 // The first laying, onto no place, tells how much room the text needs.
-pub fn print_parting(parting: Parting, out: &mut [u8]) -> Printing
+pub fn print_parting(parting: Parting, out: &mut [u8]) -> Result<usize, PrintError>
     ensures { Printed false (parting_text parting) out.old result out.new }
 {
     let need = lay_parting(parting, &mut out[..0]);
     if out.len() < need {
-        return Printing::InputSize {
+        return Err(PrintError::InputSize {
             need,
             have: out.len(),
-        };
+        });
     }
-    Printing::Done(lay_parting(parting, out))
+    Ok(lay_parting(parting, out))
 }

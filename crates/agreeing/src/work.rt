@@ -10,7 +10,7 @@ use answering::asking::ask;
 use bank::Bank;
 use parting::Parting;
 use parting::finding::parting;
-use printing::{Printing, print_refusal};
+use printing::{PrintError, print_refusal};
 
 // The bands of both engines, each in buffers as long as they are.
 fn compare(
@@ -41,7 +41,7 @@ fn agree_bands(
     approx2: &mut [f64],
     detail2: &mut [f64],
     out: &mut [u8],
-) -> Printing
+) -> Result<usize, PrintError>
     requires { Banded (length line.now) bank.taps m × Roomy (length approx.old) (length detail.old) (length scratch.old) × Roomy (length approx2.old) (length detail2.old) (length scratch.old) }
     ensures { Printed false (bank_text agreed_text bank line.now) out.old result out.new }
 {
@@ -67,28 +67,22 @@ pub fn agree_text(
     approx2: &mut [f64],
     detail2: &mut [f64],
     out: &mut [u8],
-) -> Printing
+) -> Result<usize, PrintError>
     requires { (most_numbers ≤ length numbers.old) × Roomy (length approx.old) (length detail.old) (length scratch.old) × Roomy (length approx2.old) (length detail2.old) (length scratch.old) }
     ensures { TextAgreed text.now out.old result out.new }
 {
-    let asked = ask(text, numbers);
-    let number = asked.number;
-    if number != 0 {
-        return print_refusal(number, out);
+    match ask(text, numbers) {
+        Ok(asked) => agree_bands(
+            asked.bank,
+            &numbers[asked.from..asked.end],
+            asked.m,
+            approx,
+            detail,
+            scratch,
+            approx2,
+            detail2,
+            out,
+        ),
+        Err(refusal) => print_refusal(refusal.number(), out),
     }
-    let filters = asked.bank;
-    let from = asked.from;
-    let end = asked.end;
-    let m = asked.m;
-    agree_bands(
-        filters,
-        &numbers[from..end],
-        m,
-        approx,
-        detail,
-        scratch,
-        approx2,
-        detail2,
-        out,
-    )
 }

@@ -1,5 +1,5 @@
 -- Laws of both bands in one buffer: none of either, some places more, and all of them; and the line that lies behind them stays.
-use Rattle.std.specs.Prelude.{ℕ, ◌+◌, ◌-◌, ◌≤◌, ◌<◌, List, ◌++◌, ◌≡◌, refl, length, set, take, drop, Float}
+use Rattle.std.specs.Prelude.{ℕ, ◌+◌, ◌-◌, ◌*◌, ◌≤◌, ◌<◌, List, ◌++◌, ◌≡◌, refl, length, set, take, drop, Float}
 use Rattle.std.proofs.Math.Decide.{dec_lt}
 use Rattle.std.proofs.Common.{arith, inl, inr, ⊎_elim, sym, ap, subst, ◌∙◌, length-append, length-set, get_or-append-add}
 use Rattle.std.proofs.Math.ListN.{get_or-append}
@@ -135,3 +135,21 @@ beside_all g h m i x s w k l p =
     ∙ written_all (at both) x
     ∙ ap (tab (at both)) (w ∙ sym n)
     ∙ tab_get_or both nan
+
+-- ---- eight places more of either, the k-th eight of each
+pub halves_turn : (g h : ℕ → Float) (to m k : ℕ) (x s u v : List Float) {s₁ s₂ : List Float} → 8 * k + 8 ≤ m → to + (m + m) ≤ length x → Halves g h to m (8 * k) x s
+    → ((q : ℕ) → q < 8 → at u q ≡ g (8 * k + q)) → ((q : ℕ) → q < 8 → at v q ≡ h (8 * k + q))
+    → s₁ ≡ placed (at u) (to + 8 * k) 8 s → s₂ ≡ placed (at v) (to + m + 8 * k) 8 s₁
+    → Halves g h to m (8 * (k + 1)) x s₂
+halves_turn g h to m k x s u v {s₂ = s₂} room fits p eu ev e₁ e₂ =
+    let on : 8 * k + 8 ≡ 8 * (k + 1) = omega arith in
+    subst (λ (j : ℕ). Halves g h to m j x s₂) on (halves_run g h (at u) (at v) to m (8 * k) 8 x s room fits p eu ev e₁ e₂)
+
+pub beside_turn : (g h : ℕ → Float) (m k : ℕ) (x s u v : List Float) {s₁ s₂ : List Float} → 8 * k + 8 ≤ m → length x ≡ m + m → Halves g h 0 m (8 * k) x s
+    → ((q : ℕ) → q < 8 → at u q ≡ g (8 * k + q)) → ((q : ℕ) → q < 8 → at v q ≡ h (8 * k + q))
+    → s₁ ≡ placed (at u) (8 * k) 8 s → s₂ ≡ placed (at v) (m + 8 * k) 8 s₁
+    → Halves g h 0 m (8 * (k + 1)) x s₂
+beside_turn g h m k x s u v {s₁} room w p eu ev e₁ e₂ =
+    let a : 8 * k ≡ 0 + 8 * k = omega arith in
+    let b : m + 8 * k ≡ 0 + m + 8 * k = omega arith in
+    halves_turn g h 0 m k x s u v room (omega arith) p eu ev (e₁ ∙ ap (λ (z : ℕ). placed (at u) z 8 s) a) (e₂ ∙ ap (λ (z : ℕ). placed (at v) z 8 s₁) b)

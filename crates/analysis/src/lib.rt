@@ -5,13 +5,13 @@ pub mod lists;
 pub mod work;
 
 ghost use Rattle.std.specs.Prelude.{◌≡◌};
-ghost use Rattle.std.specs.Float.{binary64};
 ghost use Rattle.analysis.specs.Analyses.{answer_of, Analysed};
 
 use bank::Bank;
 use bank::lengths::{dwt_length, padded_length};
 use bank::sizes::bad_taps;
 use numbers::LONGEST;
+use numbers::real::Real;
 
 #[derive(Drop)]
 pub enum Analysis {
@@ -54,15 +54,15 @@ pub fn analysis_answer(f: usize, n: usize, approx: usize, detail: usize, scratch
 }
 
 // Both bands of a line, by way of the padded line at the front of the scratch.
-pub fn analyse(
-    bank: Bank,
-    line: &[f64],
-    approx: &mut [f64],
-    detail: &mut [f64],
-    scratch: &mut [f64],
+pub fn analyse<R: Real>(
+    bank: Bank<R>,
+    line: &[R],
+    approx: &mut [R],
+    detail: &mut [R],
+    scratch: &mut [R],
 ) -> Analysis
-    ensures { Analysed binary64 bank.low bank.high bank.taps bank.border line.now approx.old detail.old scratch.old
-        result approx.new detail.new scratch.new }
+    ensures { Analysed R.format (R.floats bank.low) (R.floats bank.high) bank.taps bank.border (R.floats line.now) (R.floats approx.old) (R.floats detail.old) (R.floats scratch.old)
+        result (R.floats approx.new) (R.floats detail.new) (R.floats scratch.new) }
 {
     let f = bank.taps;
     let border = bank.border;

@@ -1,5 +1,5 @@
 -- What a program prints for what it reads: what it says of the bands of a request, or the number of the first test that fails; `bands` says the bands themselves. Definitions only.
-use Rattle.std.specs.Prelude.{◌≡◌, false, List, ℕ, ◌*◌, ◌/◌, ◌≤◌, length, Float}
+use Rattle.std.specs.Prelude.{◌≡◌, false, List, ℕ, ◌*◌, ◌/◌, ◌≤◌, length, Result, Ok, Err, Float}
 use Rattle.std.specs.Float.{binary64}
 use Rattle.numbers.specs.Words.{when_done}
 use Rattle.whole.specs.Floats.{floats}
@@ -11,10 +11,9 @@ use Rattle.bank.specs.Sizes as Sizes
 use Rattle.analysis.specs.Lines.{band}
 use Rattle.texts.specs.Texts.{longest_text, Request, Stands}
 use Rattle.texts.specs.Prints.{bands_text, refusal_text}
-use Rattle.parsing.specs.declared.Parsed.TheVariants as parsed
+use Rattle.parsing.specs.declared.ParseError.TheVariants as parsed
 use Rattle.parsing.specs.Parses as Parses
-use Rattle.printing.specs.declared.Printing.{Printing}
-use Rattle.printing.specs.declared.Printing.TheVariants.{Done, InputSize, Limit}
+use Rattle.printing.specs.declared.PrintError.{PrintError}
 use Rattle.printing.specs.Printings.{Printed}
 
 -- the number of the first test that fails, of the lengths of two tap lists and of a line: the lists make no bank, or the line has no bands; 0 where none does
@@ -40,12 +39,12 @@ module _ (say : List Float → List Float → List ℕ) where
   said_of q = said_text q.border (floats binary64 q.low) (floats binary64 q.high) (floats binary64 q.samples)
 
   -- a text that stands for a request is answered by the request's, and any other by the number of one that is unreadable, 14
-  pub record TextSaid (text out : List ℕ) (r : Printing) (out' : List ℕ) : Type 0 where
+  pub record TextSaid (text out : List ℕ) (r : Result ℕ PrintError) (out' : List ℕ) : Type 0 where
     pub request : (q : Request) → Stands q text → Printed false (said_of q) out r out'
-    pub unreadable : ((q : Request) → Stands q text → ⊥) → Printed false (refusal_text (Parses.number_of parsed.Unreadable)) out r out'
+    pub unreadable : ((q : Request) → Stands q text → ⊥) → Printed false (refusal_text (Parses.number_of (Err parsed.Unreadable))) out r out'
 
   -- what is said of a line's bands by a bank
-  abbrev pub bank_text : Bank → List Float → List ℕ
+  abbrev pub bank_text : Bank Float → List Float → List ℕ
   bank_text bank line = both_text bank.low bank.high bank.taps bank.border line
 
 -- ---- `bands`, which prints both bands
@@ -55,7 +54,7 @@ answer_text b low high line = said_text bands_text b low high line
 abbrev pub output_of : Request → List ℕ
 output_of q = said_of bands_text q
 
-abbrev pub TextAnswered : List ℕ → List ℕ → Printing → List ℕ → Type 0
+abbrev pub TextAnswered : List ℕ → List ℕ → Result ℕ PrintError → List ℕ → Type 0
 TextAnswered text out r out' = TextSaid bands_text text out r out'
 
 -- ---- room
@@ -75,10 +74,9 @@ abbrev pub roomiest : ℕ
 roomiest = 9 * longest_text
 
 -- the bytes of a text that was printed
-abbrev pub size_in : Printing → ℕ
-size_in (Done size) = size
-size_in (InputSize need have) = 0
-size_in Limit = 0
+abbrev pub size_in : Result ℕ PrintError → ℕ
+size_in (Ok size) = size
+size_in (Err e) = 0
 
 -- room for the bands of any text, whatever the taps
 pub record Roomy (approx detail scratch : ℕ) : Type 0 where

@@ -1,5 +1,5 @@
 -- Laws of asking: each way through the tests asks for what the definition says; and a program that prints the refusal, or what it says of the bank's two bands, has answered the text.
-use Rattle.std.specs.Prelude.{◌≡◌, refl, false, ◌⊎◌, List, ℕ, zero, suc, ◌<◌, ◌≤◌, length, Float}
+use Rattle.std.specs.Prelude.{◌≡◌, refl, false, ◌⊎◌, List, ℕ, zero, suc, ◌<◌, ◌≤◌, length, Result, Ok, Err, Float}
 use Rattle.std.proofs.Common.{sym, ap, ◌∙◌, subst, inl, inr, arith}
 use Rattle.std.specs.Float.{nan, binary64}
 use Rattle.numbers.specs.Words.{at, written, when_done}
@@ -22,15 +22,41 @@ use Rattle.texts.specs.Texts.{Request, Stands}
 use Rattle.texts.specs.Prints.{refusal_text}
 use Rattle.parsing.specs.Decides as Decides
 use Rattle.parsing.specs.Unique.{decide}
-use Rattle.printing.specs.declared.Printing.{Printing}
+use Rattle.printing.specs.declared.PrintError.{PrintError}
 use Rattle.printing.specs.Printings.{Printed}
+use Rattle.std.proofs.lemmas.Result.{IfOk-at_ok}
 use Rattle.answering.specs.declared.asking.Asked.{Asked}
+use Rattle.answering.specs.declared.asking.Refusal.{Refusal}
+use Rattle.answering.specs.declared.asking.Refusal.TheVariants.{Unreadable, Taps, MinFilterSize, ZeroedBaseSize, Limit, InputSize}
 use Rattle.answering.specs.Answers.{refusal_of, both_text, said_of, bank_text, Banded, TextSaid}
-use Rattle.answering.specs.Asks.{line_in, ListsAsked, TextAsked}
+use Rattle.answering.specs.Asks.{refusal_number, number_of, sized_of, line_in, ListsAsked, Placed, TextAsked}
 use Rattle.answering.specs.Answering.{few_samples}
 
+-- ---- a band's length, and refusals, by their numbers
+sized_number : (r : Size) {k : Refusal} → sized_of r ≡ Err k → refusal_number k ≡ Sizes.number_of r
+sized_number (size.Length m) {k} e = cc
+sized_number (size.MinFilterSize n f) {k} e = let h : MinFilterSize ≡ k = cc in ap refusal_number (sym h)
+sized_number size.ZeroedBaseSize {k} e = let h : ZeroedBaseSize ≡ k = cc in ap refusal_number (sym h)
+sized_number size.Limit {k} e = let h : Limit ≡ k = cc in ap refusal_number (sym h)
+sized_number size.Taps {k} e = let h : Taps ≡ k = cc in ap refusal_number (sym h)
+
+sized_length : (r : Size) {m : ℕ} → sized_of r ≡ Ok m → r ≡ size.Length m
+sized_length (size.Length k) e = cc
+sized_length (size.MinFilterSize n f) e = cc
+sized_length size.ZeroedBaseSize e = cc
+sized_length size.Limit e = cc
+sized_length size.Taps e = cc
+
+some_number : (k : Refusal) → 0 < refusal_number k
+some_number Unreadable = omega arith
+some_number Taps = omega arith
+some_number MinFilterSize = omega arith
+some_number ZeroedBaseSize = omega arith
+some_number Limit = omega arith
+some_number InputSize = omega arith
+
 -- ---- ways through the tests of two lists, which may have made a bank, and n samples
-module _ {b : Border} {low high : List Float} (n : ℕ) {made : Making} {bank : Bank} (w : Banks.BankMade low high b made bank) where
+module _ {b : Border} {low high : List Float} (n : ℕ) {made : Making} {bank : Bank Float} (w : Banks.BankMade low high b made bank) where
   abbrev sizing : Size
   sizing = Sizes.of_samples n (length low) (pairs n (length low))
 
@@ -38,23 +64,25 @@ module _ {b : Border} {low high : List Float} (n : ℕ) {made : Making} {bank : 
   first : {k : Making} → made ≡ k → when_done (Banks.number_of k) (Sizes.number_of sizing) (Banks.number_of k) ≡ refusal_of (length low) (length high) n
   first e = ap (λ (k : Making). when_done (Banks.number_of k) (Sizes.number_of sizing) (Banks.number_of k)) (sym e ∙ w.answer)
 
-  refused_by : {a : Asked} → a.number ≡ refusal_of (length low) (length high) n → 0 < a.number → ListsAsked b low high n a
-  refused_by e h = record { refusal = e; made = λ z. absurd (omega (arith, z)); size = λ z. absurd (omega (arith, z)) }
+  refused_by : {e : Refusal} → refusal_number e ≡ refusal_of (length low) (length high) n → ListsAsked b low high n (Err e)
+  refused_by e = record { refusal = e; made = tt; size = tt }
 
-  pub unmade : {a : Asked} → made ≡ making.Taps → a.number ≡ 12 → ListsAsked b low high n a
-  unmade e h = refused_by (h ∙ first e) (omega (arith, h))
+  pub unmade : made ≡ making.Taps → ListsAsked b low high n (Err Taps)
+  unmade e = refused_by (first e)
 
   -- where the bank was made the line decides
   module _ (e : made ≡ making.Done) {r : Size} (f : r ≡ sizing) where
-    pub unsized : {a : Asked} {k : ℕ} → 0 < Sizes.number_of r → k ≡ Sizes.number_of r → a.number ≡ k → ListsAsked b low high n a
-    unsized h g k = refused_by (k ∙ g ∙ ap Sizes.number_of f ∙ first e) (omega (arith, k, g, h))
+    pub unsized : {k : Refusal} → sized_of r ≡ Err k → ListsAsked b low high n (Err k)
+    unsized {k} g = refused_by (sized_number r g ∙ ap Sizes.number_of f ∙ first e)
 
-    pub both_asked : {a : Asked} {m : ℕ} → r ≡ size.Length m → a.number ≡ 0 → a.bank ≡ bank → a.m ≡ m → ListsAsked b low high n a
-    both_asked g z held s = record {
-      refusal = z ∙ ap Sizes.number_of (sym g ∙ f) ∙ first e;
-      made = λ _. held ∙ renewed _ _ (ap Banks.number_of e) w.made;
-      size = λ _. s ∙ (sized n (length low) (pairs n (length low)) _ (sym f ∙ g)).given;
-    }
+    pub both_asked : {m : ℕ} {a : Asked} → sized_of r ≡ Ok m → a.bank ≡ bank → a.m ≡ m → ListsAsked b low high n (Ok a)
+    both_asked {m} g held s =
+        let k = sized_length r g in
+        record {
+          refusal = ap Sizes.number_of (sym k ∙ f) ∙ first e;
+          made = held ∙ renewed _ _ (ap Banks.number_of e) w.made;
+          size = s ∙ (sized n (length low) (pairs n (length low)) _ (sym f ∙ k)).given;
+        }
 
 -- ---- what is not refused
 -- a line and taps that no test refuses can be analysed
@@ -73,10 +101,10 @@ unrefused low high n e = go (Sizes.of_samples n low (pairs n low)) refl (later (
     go size.Taps g h = absurd (omega (arith, h))
 
 -- a bank's arrays read as the lists that made it do
-bank_said : (say : List Float → List Float → List ℕ) (b : Border) (low high line : List Float) {bank : Bank} → bank ≡ Banks.bank_of low (at high) b
+bank_said : (say : List Float → List Float → List ℕ) (b : Border) (low high line : List Float) {bank : Bank Float} → bank ≡ Banks.bank_of low (at high) b
     → bank_text say bank line ≡ both_text say low high (length low) b line
 bank_said say b low high line real =
-    ap (λ (k : Bank). bank_text say k line) real
+    ap (λ (k : Bank Float). bank_text say k line) real
     ∙ ap (λ (x : List Float). say x (band binary64 (written (at high) (length low) Banks.zeros) (length low) b line)) (band_same binary64 (written (at low) (length low) Banks.zeros) low (length low) b line (held low))
     ∙ ap (say (band binary64 low (length low) b line)) (band_same binary64 (written (at high) (length low) Banks.zeros) high (length low) b line (held high))
   where
@@ -84,20 +112,26 @@ bank_said say b low high line real =
     held l j h = get_or-written_in (at l) (length low) Banks.zeros j nan h
 
 -- ---- what was asked of a text, answered
-module _ {text : List ℕ} {numbers : List Float} {a : Asked} (w : TextAsked text numbers a) where
+module _ {text : List ℕ} {numbers : List Float} {asked : Result Asked Refusal} (w : TextAsked text numbers asked) where
   -- a request's text by the number that was asked
   by_number : (say : List Float → List Float → List ℕ) (q : Request) → Stands q text
-      → when_done a.number (both_text say (floats binary64 q.low) (floats binary64 q.high) (length (floats binary64 q.low)) q.border (floats binary64 q.samples)) (refusal_text a.number) ≡ said_of say q
+      → when_done (number_of asked) (both_text say (floats binary64 q.low) (floats binary64 q.high) (length (floats binary64 q.low)) q.border (floats binary64 q.samples)) (refusal_text (number_of asked)) ≡ said_of say q
   by_number say q k = ap (λ (n : ℕ). when_done n (both_text say (floats binary64 q.low) (floats binary64 q.high) (length (floats binary64 q.low)) q.border (floats binary64 q.samples)) (refusal_text n)) (w.request q k).refusal
 
-  pub refused : {say : List Float → List Float → List ℕ} {out : List ℕ} {r : Printing} {out' : List ℕ} → (a.number ≡ 0 → ⊥) → Printed false (refusal_text a.number) out r out' → TextSaid say text out r out'
-  refused {say} {out} {r} {out'} h p = record {
-    request = λ q k. subst (λ (t : List ℕ). Printed false t out r out') (kept a.number (omega (arith, h)) _ (refusal_text a.number) ∙ by_number say q k) p;
-    unreadable = λ f. subst (λ (n : ℕ). Printed false (refusal_text n) out r out') (w.unreadable f) p;
-  }
+  pub refused : {say : List Float → List Float → List ℕ} {out : List ℕ} {k : Refusal} {m : ℕ} {r : Result ℕ PrintError} {out' : List ℕ} → asked ≡ Err k → m ≡ refusal_number k → Printed false (refusal_text m) out r out' → TextSaid say text out r out'
+  refused {say} {out} {k} {m} {r} {out'} e f p =
+      let n : m ≡ number_of asked = f ∙ sym (ap number_of e) in
+      let v : Printed false (refusal_text (number_of asked)) out r out' = subst (λ (n : ℕ). Printed false (refusal_text n) out r out') n p in
+      record {
+        request = λ q s. subst (λ (t : List ℕ). Printed false t out r out') (kept (number_of asked) (omega (arith, n, f, some_number k)) _ (refusal_text (number_of asked)) ∙ by_number say q s) v;
+        unreadable = λ f. subst (λ (n : ℕ). Printed false (refusal_text n) out r out') (w.unreadable f) v;
+      }
 
   -- where there are bands to make
-  module _ (z : a.number ≡ 0) where
+  module _ {a : Asked} (e : asked ≡ Ok a) where
+    z : number_of asked ≡ 0
+    z = ap number_of e
+
     -- the text stands for some request
     some : Decides.Asked text
     some = go (decide text)
@@ -106,8 +140,15 @@ module _ {text : List ℕ} {numbers : List Float} {a : Asked} (w : TextAsked tex
         go (inl q) = q
         go (inr f) = absurd (omega (arith, z, w.unreadable f))
 
+    -- what was asked for a request
+    placed : (q : Request) → Stands q text → Placed a.from a.end numbers (floats binary64 q.samples)
+    placed q k = IfOk-at_ok (λ (a : Asked). Placed a.from a.end numbers (floats binary64 q.samples)) e (w.placed q k)
+
+    made : (q : Request) → Stands q text → a.bank ≡ Banks.bank_of (floats binary64 q.low) (at (floats binary64 q.high)) q.border
+    made q k = IfOk-at_ok (λ (a : Asked). a.bank ≡ Banks.bank_of (floats binary64 q.low) (at (floats binary64 q.high)) q.border) e (w.request q k).made
+
     pub inside : (a.from ≤ a.end) × (a.end ≤ length numbers)
-    inside = let p = w.placed some.request some.stands in (p.starts, p.ends)
+    inside = let p = placed some.request some.stands in (p.starts, p.ends)
 
     pub banded : Banded (length (line_in a.from a.end numbers)) a.bank.taps a.m
     banded =
@@ -115,15 +156,15 @@ module _ {text : List ℕ} {numbers : List Float} {a : Asked} (w : TextAsked tex
         let l = w.request q some.stands in
         let n : ℕ = length (floats binary64 q.samples) in
         let f : ℕ = length (floats binary64 q.low) in
-        subst (λ (x : ℕ). Banded x a.bank.taps a.m) (sym (ap length (w.placed q some.stands).same))
-        (subst (λ (x : ℕ). Banded n x a.m) (sym (ap (λ (k : Bank). k.taps) (l.made z)))
+        subst (λ (x : ℕ). Banded x a.bank.taps a.m) (sym (ap length (placed q some.stands).same))
+        (subst (λ (x : ℕ). Banded n x a.m) (sym (ap (λ (k : Bank Float). k.taps) (made q some.stands)))
         (record {
           ready = unrefused f (length (floats binary64 q.high)) n (sym l.refusal ∙ z);
-          size = l.size z;
+          size = IfOk-at_ok (λ (a : Asked). a.m ≡ pairs n f) e l.size;
           short = few_samples q text some.stands;
         }))
 
-    pub said : {say : List Float → List Float → List ℕ} {out : List ℕ} {r : Printing} {out' : List ℕ} → Printed false (bank_text say a.bank (line_in a.from a.end numbers)) out r out' → TextSaid say text out r out'
+    pub said : {say : List Float → List Float → List ℕ} {out : List ℕ} {r : Result ℕ PrintError} {out' : List ℕ} → Printed false (bank_text say a.bank (line_in a.from a.end numbers)) out r out' → TextSaid say text out r out'
     said {say} {out} {r} {out'} p = record {
       request = λ q k. subst (λ (t : List ℕ). Printed false t out r out') (same q k) p;
       unreadable = λ f. absurd (f some.request some.stands);
@@ -131,7 +172,7 @@ module _ {text : List ℕ} {numbers : List Float} {a : Asked} (w : TextAsked tex
       where
         same : (q : Request) → Stands q text → bank_text say a.bank (line_in a.from a.end numbers) ≡ said_of say q
         same q k =
-            ap (bank_text say a.bank) (w.placed q k).same
-            ∙ bank_said say q.border (floats binary64 q.low) (floats binary64 q.high) (floats binary64 q.samples) ((w.request q k).made z)
-            ∙ ap (λ (n : ℕ). when_done n (both_text say (floats binary64 q.low) (floats binary64 q.high) (length (floats binary64 q.low)) q.border (floats binary64 q.samples)) (refusal_text a.number)) (sym z)
+            ap (bank_text say a.bank) (placed q k).same
+            ∙ bank_said say q.border (floats binary64 q.low) (floats binary64 q.high) (floats binary64 q.samples) (made q k)
+            ∙ ap (λ (n : ℕ). when_done n (both_text say (floats binary64 q.low) (floats binary64 q.high) (length (floats binary64 q.low)) q.border (floats binary64 q.samples)) (refusal_text (number_of asked))) (sym z)
             ∙ by_number say q k

@@ -1,5 +1,5 @@
 -- Laws of a bank and a line: the buffers have room for its bands, so analysis is done and the parts that took them are printed.
-use Rattle.std.specs.Prelude.{◌≡◌, Bool, false, List, ◌++◌, ℕ, ◌≤◌, length, take, drop, Float}
+use Rattle.std.specs.Prelude.{◌≡◌, Bool, false, List, ◌++◌, ℕ, ◌≤◌, length, take, drop, Result, Float}
 use Rattle.std.proofs.Common.{sym, ap, ◌∙◌, subst, arith, length-append, take_at, length-take-le}
 use Rattle.std.specs.Float.{binary64}
 use Rattle.numbers.specs.Tests.{renewed}
@@ -12,7 +12,7 @@ use Rattle.analysis.specs.Taps.{length-band}
 use Rattle.analysis.specs.Works.{Analysing}
 use Rattle.analysis.specs.Tested.{analysed_done}
 use Rattle.texts.specs.Prints.{bands_text}
-use Rattle.printing.specs.declared.Printing.{Printing}
+use Rattle.printing.specs.declared.PrintError.{PrintError}
 use Rattle.printing.specs.Printings.{too_long, Printed}
 use Rattle.printing.specs.Tested.{none_long}
 use Rattle.answering.specs.Answers.{most_pairs, most_padded, bank_text, Roomy, Banded}
@@ -50,7 +50,7 @@ lent_fronts {m = m} x y b r = record {
 }
 
 -- ---- both bands, in parts that are as long
-module _ (bank : Bank) (line p q scratch : List Float) (ready : Analysing bank.taps (length line) (length p) (length q) (length scratch)) where
+module _ (bank : Bank Float) (line p q scratch : List Float) (ready : Analysing bank.taps (length line) (length p) (length q) (length scratch)) where
   abbrev low : List Float
   low = band binary64 bank.low bank.taps bank.border line
 
@@ -64,7 +64,7 @@ module _ (bank : Bank) (line p q scratch : List Float) (ready : Analysing bank.t
       (renewed low p z w.approxes, renewed high q z w.details)
 
   -- and both are printed from where they lie
-  pub bands_printed : {m : ℕ} {r : Analysis} {a d s : List Float} {text text' : List ℕ} {print : Printing} (x y : List Float) → Banded (length line) bank.taps m
+  pub bands_printed : {m : ℕ} {r : Analysis} {a d s : List Float} {text text' : List ℕ} {print : Result ℕ PrintError} (x y : List Float) → Banded (length line) bank.taps m
       → Analyses.Analysed binary64 bank.low bank.high bank.taps bank.border line p q scratch r a d s
       → Printed (too_long (take m (a ++ x)) (take m (d ++ y))) (bands_text (take m (a ++ x)) (take m (d ++ y))) text print text'
       → Printed false (bank_text bands_text bank line) text print text'

@@ -1,5 +1,5 @@
 -- Laws of the room that an answer needs: where a buffer holds a refusal and whatever is said of two bands, nothing but the whole text is answered, since a readable text has few numbers; `roomiest` bytes hold both bands.
-use Rattle.std.specs.Prelude.{◌≡◌, refl, false, ◌⊎◌, List, [], ◌∷◌, ◌++◌, ℕ, zero, suc, ◌+◌, ◌*◌, ◌≤◌, ltb, length, Float}
+use Rattle.std.specs.Prelude.{◌≡◌, refl, false, ◌⊎◌, List, [], ◌∷◌, ◌++◌, ℕ, zero, suc, ◌+◌, ◌*◌, ◌≤◌, ltb, length, Result, Ok, Float}
 use Rattle.std.proofs.Common.{sym, ◌∙◌, subst, inl, inr, arith, le-ltb, length-append}
 use Rattle.std.specs.Float.{binary64}
 use Rattle.numbers.specs.Words.{when_done}
@@ -12,8 +12,7 @@ use Rattle.texts.specs.Texts.{newline, space, decimal, Request, Stands}
 use Rattle.texts.specs.Prints.{floats_text, head_text, band_text, bands_text, refusal_text, refused_word, approx_word, detail_word}
 use Rattle.parsing.specs.Decides.{Asked}
 use Rattle.parsing.specs.Unique.{decide}
-use Rattle.printing.specs.declared.Printing.{Printing}
-use Rattle.printing.specs.declared.Printing.TheVariants.{Done}
+use Rattle.printing.specs.declared.PrintError.{PrintError}
 use Rattle.printing.specs.Printings.{Printed}
 use Rattle.printing.specs.Sizes as Printed
 use Rattle.answering.specs.Answers.{most_numbers, most_pairs, roomiest, size_in, refusal_of, both_text, said_text, TextSaid, TextAnswered}
@@ -52,24 +51,24 @@ module _ {say : List Float → List Float → List ℕ} {room : ℕ} (f : Fits s
       go (suc k) e = omega (arith, length_refusal (suc k), f.refusals)
 
   -- with that room the answer is done
-  always : {t out : List ℕ} {r : Printing} {out' : List ℕ} → Printed false t out r out' → length t ≤ room → room ≤ length out → r ≡ Done (length t)
+  always : {t out : List ℕ} {r : Result ℕ PrintError} {out' : List ℕ} → Printed false t out r out' → length t ≤ room → room ≤ length out → r ≡ Ok (length t)
   always {t = t} {out} p h k = p.answer ∙ cond_false (ltb (length out) (length t)) _ _ (le-ltb (length out) (length t) (omega arith))
 
-  pub said_whole : {text out : List ℕ} {r : Printing} {out' : List ℕ} → TextSaid say text out r out' → room ≤ length out → (k : ℕ) × (r ≡ Done k) × (k ≤ length out)
+  pub said_whole : {text out : List ℕ} {r : Result ℕ PrintError} {out' : List ℕ} → TextSaid say text out r out' → room ≤ length out → (k : ℕ) × (r ≡ Ok k) × (k ≤ length out)
   said_whole {text} {out} {r} {out'} p large = go (decide text)
     where
-      done : {t : List ℕ} → Printed false t out r out' → length t ≤ room → (k : ℕ) × (r ≡ Done k) × (k ≤ length out)
+      done : {t : List ℕ} → Printed false t out r out' → length t ≤ room → (k : ℕ) × (r ≡ Ok k) × (k ≤ length out)
       done {t} w h = (length t, always w h large, omega (arith, h, large))
 
-      go : Asked text ⊎ ((q : Request) → Stands q text → ⊥) → (k : ℕ) × (r ≡ Done k) × (k ≤ length out)
+      go : Asked text ⊎ ((q : Request) → Stands q text → ⊥) → (k : ℕ) × (r ≡ Ok k) × (k ≤ length out)
       go (inl a) =
           let q = a.request in
           done (p.request q a.stands) (fits q.border (floats binary64 q.low) (floats binary64 q.high) (floats binary64 q.samples) (few_samples q text a.stands))
       go (inr g) = done (p.unreadable g) (omega (arith, length_refusal 14, f.refusals))
 
   -- so what is answered is a part of the buffer
-  pub said_part : {text out : List ℕ} {r : Printing} {out' : List ℕ} → TextSaid say text out r out' → room ≤ length out → size_in r ≤ length out
-  said_part {out = out} p large = let w = said_whole p large in subst (λ (k : Printing). size_in k ≤ length out) (sym w.1) w.2
+  pub said_part : {text out : List ℕ} {r : Result ℕ PrintError} {out' : List ℕ} → TextSaid say text out r out' → room ≤ length out → size_in r ≤ length out
+  said_part {out = out} p large = let w = said_whole p large in subst (λ (k : Result ℕ PrintError). size_in k ≤ length out) (sym w.1) w.2
 
 -- ---- `bands`
 bands_fit : Fits bands_text roomiest
@@ -78,8 +77,8 @@ bands_fit = record {
   bands = λ a d h k. omega (arith, length-bands a d most_pairs h k);
 }
 
-pub printed_whole : {text out : List ℕ} {r : Printing} {out' : List ℕ} → TextAnswered text out r out' → roomiest ≤ length out → (k : ℕ) × (r ≡ Done k) × (k ≤ length out)
+pub printed_whole : {text out : List ℕ} {r : Result ℕ PrintError} {out' : List ℕ} → TextAnswered text out r out' → roomiest ≤ length out → (k : ℕ) × (r ≡ Ok k) × (k ≤ length out)
 printed_whole p large = said_whole bands_fit p large
 
-pub printed_part : {text out : List ℕ} {r : Printing} {out' : List ℕ} → TextAnswered text out r out' → roomiest ≤ length out → size_in r ≤ length out
+pub printed_part : {text out : List ℕ} {r : Result ℕ PrintError} {out' : List ℕ} → TextAnswered text out r out' → roomiest ≤ length out → size_in r ≤ length out
 printed_part p large = said_part bands_fit p large

@@ -1,116 +1,120 @@
-// What a text asks for: a bank and a line of samples, or the number that refuses it.
-ghost use Rattle.std.specs.Prelude.{◌≡◌, ◌+◌, ◌-◌, ◌≤◌, length, take};
-ghost use Rattle.bank.specs.Sizes as Sizes;
+// What a text asks for: a bank and a line of samples, or why it is refused.
+ghost use Rattle.std.specs.Prelude.{◌≡◌, ◌+◌, ◌-◌, ◌≤◌, length, take, IfOk};
 ghost use Rattle.answering.specs.Answers.{most_numbers};
-ghost use Rattle.answering.specs.Asks.{line_in, ListsAsked, TextAsked};
+ghost use Rattle.answering.specs.Asks.{refusal_number, unparsed, sized_of, line_in, ListsAsked, TextAsked};
 
 use bank::Bank;
 use bank::making::{Making, bank};
 use bank::sizes::{Size, band_length};
 use border::Border;
-use parsing::{Parsed, parse};
+use parsing::{ParseError, Request, parse};
 
-// The number is 0 where there are bands to make: of the numbers from `from` to `end`, m in each band.
-#[derive(Drop)]
+// The bands of the numbers from `from` to `end`, m in each.
+#[derive(Clone, Copy)]
 pub struct Asked {
-    pub number: u64,
     pub bank: Bank,
     pub from: usize,
     pub end: usize,
     pub m: usize,
 }
 
-// The number of a size that is refused.
-fn number_of(size: Size) -> u64
-    ensures { result ≡ Sizes.number_of size }
-{
-    match size {
-        Size::Length(_) => 0,
-        Size::MinFilterSize { n: _, f: _ } => 1,
-        Size::ZeroedBaseSize => 7,
-        Size::Limit => 11,
-        Size::Taps => 12,
+// Why a text has no bands.
+#[derive(Clone, Copy, Debug, PartialEq, Eq)]
+pub enum Refusal {
+    Unreadable,
+    Taps,
+    MinFilterSize,
+    ZeroedBaseSize,
+    Limit,
+    InputSize,
+}
+
+impl Refusal {
+    // The number that is printed (RULES, Numbers).
+    pub fn number(self) -> u64
+        ensures { result ≡ refusal_number self }
+    {
+        match self {
+            Refusal::Unreadable => 14,
+            Refusal::Taps => 12,
+            Refusal::MinFilterSize => 1,
+            Refusal::ZeroedBaseSize => 7,
+            Refusal::Limit => 11,
+            Refusal::InputSize => 10,
+        }
     }
 }
 
-// No bands, whatever bank there is.
-fn refused(number: u64, bank: Bank, from: usize, end: usize) -> Asked
-    ensures { (result.number ≡ number) × (result.from ≡ from) × (result.end ≡ end) }
+impl From<ParseError> for Refusal {
+    ghost from_gives = { λ e r. r ≡ unparsed e };
+
+    fn from(e: ParseError) -> Refusal {
+        match e {
+            ParseError::InputSize { .. } => Refusal::InputSize,
+            ParseError::Unreadable => Refusal::Unreadable,
+        }
+    }
+}
+
+// How long each band is.
+fn sized(size: Size) -> Result<usize, Refusal>
+    ensures { result ≡ sized_of size }
 {
-    Asked {
-        number,
-        bank,
-        from,
-        end,
-        m: 0,
+    match size {
+        Size::Length(m) => Ok(m),
+        Size::MinFilterSize { .. } => Err(Refusal::MinFilterSize),
+        Size::ZeroedBaseSize => Err(Refusal::ZeroedBaseSize),
+        Size::Limit => Err(Refusal::Limit),
+        Size::Taps => Err(Refusal::Taps),
     }
 }
 
 // Two tap lists, and a line whose length is all that is asked of it.
-fn ask_lists(border: Border, low: &[f64], high: &[f64], from: usize, end: usize) -> Asked
+fn ask_lists(
+    border: Border,
+    low: &[f64],
+    high: &[f64],
+    from: usize,
+    end: usize,
+) -> Result<Asked, Refusal>
     requires { from ≤ end }
-    ensures { (result.from ≡ from) × (result.end ≡ end) × ListsAsked border low.now high.now (end - from) result }
+    ensures { IfOk result (λ a. (a.from ≡ from) × (a.end ≡ end)) × ListsAsked border low.now high.now (end - from) result }
 {
     let made = bank(low, high, border);
-    let answer = made.answer;
-    let filters = made.bank;
-    let Making::Done = answer else {
-        return refused(12, filters, from, end);
+    let Making::Done = made.answer else {
+        return Err(Refusal::Taps);
     };
-    let size = band_length(end - from, low.len());
-    let Size::Length(m) = size else {
-        return refused(number_of(size), filters, from, end);
-    };
-    Asked {
-        number: 0,
-        bank: filters,
+    let m = sized(band_length(end - from, low.len()))?;
+    Ok(Asked {
+        bank: made.bank,
         from,
         end,
         m,
-    }
+    })
 }
 
 // The lists where parsing put them, one behind another.
-fn ask_request(border: Border, low: usize, high: usize, samples: usize, numbers: &[f64]) -> Asked
-    requires { low + high + samples ≤ length numbers.now }
-    ensures { (result.from ≡ low + high) × (result.end ≡ low + high + samples)
-        × ListsAsked border (take low numbers.now) (line_in low (low + high) numbers.now) (low + high + samples - (low + high)) result }
+fn ask_request(request: Request, numbers: &[f64]) -> Result<Asked, Refusal>
+    requires { request.low + request.high + request.samples ≤ length numbers.now }
+    ensures { IfOk result (λ a. (a.from ≡ request.low + request.high) × (a.end ≡ request.low + request.high + request.samples))
+        × ListsAsked request.border (take request.low numbers.now) (line_in request.low (request.low + request.high) numbers.now) (request.low + request.high + request.samples - (request.low + request.high)) result }
 {
-    let from = low + high;
-    let end = from + samples;
-    ask_lists(border, &numbers[..low], &numbers[low..from], from, end)
+    let from = request.low + request.high;
+    let end = from + request.samples;
+    ask_lists(
+        request.border,
+        &numbers[..request.low],
+        &numbers[request.low..from],
+        from,
+        end,
+    )
 }
 
-// A text that asks for nothing.
-fn unasked(number: u64) -> Asked
-    ensures { result.number ≡ number }
-{
-    let none = Bank {
-        low: [0.0f64; 64],
-        high: [0.0f64; 64],
-        lowback: [0.0f64; 64],
-        highback: [0.0f64; 64],
-        taps: 0,
-        border: Border::Zeros,
-    };
-    refused(number, none, 0, 0)
-}
-
-// Into a buffer that has room for any text's numbers.
-pub fn ask(text: &[u8], numbers: &mut [f64]) -> Asked
+// Into a buffer that has room for any text's numbers, so that parsing asks for no more.
+pub fn ask(text: &[u8], numbers: &mut [f64]) -> Result<Asked, Refusal>
     requires { most_numbers ≤ length numbers.old }
     ensures { TextAsked text.now numbers.new result }
 {
-    let parsed = parse(text, numbers);
-    match parsed {
-        Parsed::Request {
-            border,
-            low,
-            high,
-            samples,
-        } => ask_request(border, low, high, samples, numbers),
-        // Never: so short a text has fewer numbers.
-        Parsed::InputSize { need: _, have: _ } => unasked(10),
-        Parsed::Unreadable => unasked(14),
-    }
+    let request = parse(text, numbers)?;
+    ask_request(request, numbers)
 }

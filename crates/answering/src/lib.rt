@@ -8,7 +8,7 @@ ghost use Rattle.answering.specs.Answers.{TextAnswered};
 
 use crate::work::answer_text;
 use parsing::LONGEST_TEXT;
-use printing::Printing;
+use printing::PrintError;
 
 // The most numbers of a text: each has a byte at least, and one behind it.
 pub const MOST_NUMBERS: usize = LONGEST_TEXT / 2;
@@ -21,7 +21,7 @@ pub const MOST_PADDED: usize = 2 * MOST_PAIRS + 64 - 2;
 // The most bytes of an answer.
 pub const ROOMIEST: usize = 9 * LONGEST_TEXT;
 
-pub fn answer(text: &[u8], out: &mut [u8]) -> Printing
+pub fn answer(text: &[u8], out: &mut [u8]) -> Result<usize, PrintError>
     ensures { TextAnswered text.now out.old result out.new }
 {
     let mut numbers = [0.0f64; MOST_NUMBERS];

@@ -7,7 +7,7 @@ ghost use Rattle.answering.specs.Answers.{most_numbers, bank_text, Roomy, Banded
 use crate::asking::ask;
 use analysis::analyse;
 use bank::Bank;
-use printing::{Printing, print_bands, print_refusal};
+use printing::{PrintError, print_bands, print_refusal};
 
 // Both bands of m numbers each.
 fn answer_bands(
@@ -18,7 +18,7 @@ fn answer_bands(
     detail: &mut [f64],
     scratch: &mut [f64],
     out: &mut [u8],
-) -> Printing
+) -> Result<usize, PrintError>
     requires { Banded (length line.now) bank.taps m × Roomy (length approx.old) (length detail.old) (length scratch.old) }
     ensures { Printed false (bank_text bands_text bank line.now) out.old result out.new }
 {
@@ -34,26 +34,20 @@ pub fn answer_text(
     detail: &mut [f64],
     scratch: &mut [f64],
     out: &mut [u8],
-) -> Printing
+) -> Result<usize, PrintError>
     requires { (most_numbers ≤ length numbers.old) × Roomy (length approx.old) (length detail.old) (length scratch.old) }
     ensures { TextAnswered text.now out.old result out.new }
 {
-    let asked = ask(text, numbers);
-    let number = asked.number;
-    if number != 0 {
-        return print_refusal(number, out);
+    match ask(text, numbers) {
+        Ok(asked) => answer_bands(
+            asked.bank,
+            &numbers[asked.from..asked.end],
+            asked.m,
+            approx,
+            detail,
+            scratch,
+            out,
+        ),
+        Err(refusal) => print_refusal(refusal.number(), out),
     }
-    let filters = asked.bank;
-    let from = asked.from;
-    let end = asked.end;
-    let m = asked.m;
-    answer_bands(
-        filters,
-        &numbers[from..end],
-        m,
-        approx,
-        detail,
-        scratch,
-        out,
-    )
 }

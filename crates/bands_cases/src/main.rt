@@ -5,7 +5,6 @@ use agreeing::ROOM;
 use agreeing::saying::print_parting;
 use bands_run::{INPUT, OUTPUT};
 use parting::finding::parting;
-use printing::Printing;
 use std::env;
 use std::fs::File;
 use std::os::fd::AsRawFd;
@@ -62,7 +61,7 @@ fn tell_parting(approx2: &[f64], detail2: &[f64]) {
     let detail = [4.0f64, 5.0, 6.0];
     let mut out = [0u8; ROOM];
     let printed = print_parting(parting(&approx, &detail, approx2, detail2), &mut out);
-    let Printing::Done(n) = printed else {
+    let Ok(n) = printed else {
         return;
     };
     if n <= out.len() {

@@ -6,7 +6,7 @@ ghost use Rattle.answering.specs.Answers.{roomiest, size_in};
 
 use answering::{ROOMIEST, answer};
 use parsing::LONGEST_TEXT;
-use printing::Printing;
+use printing::PrintError;
 
 // One byte more than may be read tells that the text is longer.
 pub const MOST_READ: usize = LONGEST_TEXT + 1;
@@ -19,14 +19,14 @@ pub const OUTPUT: i32 = 1;
 pub const ERRORS: i32 = 2;
 
 // A text that was printed at the front of `out`.
-pub fn write_printed(printed: Printing, out: &[u8], to: i32) -> bool
+pub fn write_printed(printed: Result<usize, PrintError>, out: &[u8], to: i32) -> bool
     requires { size_in printed ≤ length out.now }
 {
-    // Not where there was room.
-    let Printing::Done(n) = printed else {
-        return false;
-    };
-    io::write_all(to, &out[..n])
+    match printed {
+        Ok(n) => io::write_all(to, &out[..n]),
+        // Not where there was room.
+        Err(_) => false,
+    }
 }
 
 fn respond(text: &[u8], out: &mut [u8], to: i32) -> bool

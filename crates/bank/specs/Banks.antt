@@ -49,7 +49,7 @@ abbrev pub mirror : List Float → ℕ → Float
 mirror low j = mirror_of neg (at low) (length low) j
 
 -- a bank by its fields: the pair of the way there, that of the way back, how many taps, the border
-abbrev pub held_in : List Float → List Float → List Float → List Float → ℕ → Border → Bank
+abbrev pub held_in : List Float → List Float → List Float → List Float → ℕ → Border → Bank Float
 held_in l h sl sh f b = record { low = l; high = h; lowback = sl; highback = sh; taps = f; border = b }
 
 -- the first f taps in an array; zeros fill the rest
@@ -57,26 +57,26 @@ abbrev pub array_of : ℕ → (ℕ → Float) → List Float
 array_of f tap = written tap f zeros
 
 -- the bank of four lists, told by their places
-abbrev pub bank_of_four : ℕ → (ℕ → Float) → (ℕ → Float) → (ℕ → Float) → (ℕ → Float) → Border → Bank
+abbrev pub bank_of_four : ℕ → (ℕ → Float) → (ℕ → Float) → (ℕ → Float) → (ℕ → Float) → Border → Bank Float
 bank_of_four f l h sl sh b = held_in (array_of f l) (array_of f h) (array_of f sl) (array_of f sh) f b
 
 -- the bank of two lists, the high one told by its places: the same pair twice
-abbrev pub bank_of : List Float → (ℕ → Float) → Border → Bank
+abbrev pub bank_of : List Float → (ℕ → Float) → Border → Bank Float
 bank_of l h b = bank_of_four (length l) (at l) h (at l) h b
 
 -- the bank beside a refusal: no taps
-abbrev pub no_bank : Border → Bank
+abbrev pub no_bank : Border → Bank Float
 no_bank b = held_in zeros zeros zeros zeros 0 b
 
-pub record BankMade (low high : List Float) (b : Border) (r : Making) (bank : Bank) : Type 0 where
+pub record BankMade (low high : List Float) (b : Border) (r : Making) (bank : Bank Float) : Type 0 where
   pub answer : r ≡ answer_of (length low) (length high)
   pub made : bank ≡ when_done (number_of r) (bank_of low (at high) b) (no_bank b)
 
-pub record MirrorMade (low : List Float) (b : Border) (r : Making) (bank : Bank) : Type 0 where
+pub record MirrorMade (low : List Float) (b : Border) (r : Making) (bank : Bank Float) : Type 0 where
   pub answer : r ≡ answer_of (length low) (length low)
   pub made : bank ≡ when_done (number_of r) (bank_of low (mirror low) b) (no_bank b)
 
-pub record PairsMade (low high sl sh : List Float) (b : Border) (r : Making) (bank : Bank) : Type 0 where
+pub record PairsMade (low high sl sh : List Float) (b : Border) (r : Making) (bank : Bank Float) : Type 0 where
   pub answer : r ≡ answer_of_four (length low) (length high) (length sl) (length sh)
   pub made : bank ≡ when_done (number_of r) (bank_of_four (length low) (at low) (at high) (at sl) (at sh) b) (no_bank b)
 

@@ -93,6 +93,12 @@ module _ (low high : List Float) {f : ℕ} (taps : f ≡ taps_of (length low) (l
             ∙ tab_same (at (tab g F)) g F (λ i l. get_or-tab g F i nan l);
       }
 
+  -- the same where the taps are written over the list itself
+  pub mirror_over : {high' : List Float} → (f ≡ 0 → ⊥) → high' ≡ written (mirror low) (length low) high → Mirrored low high Done high'
+  mirror_over n h =
+      let p = mirror_lists n in
+      record { answer = p.answer; mirrored = h ∙ ap (λ (k : ℕ). written (mirror low) k high) (sym p.both) ∙ written_all (mirror low) high ∙ ap (tab (mirror low)) p.both }
+
   -- the array has room for every tap
   pub mirror_room : {array : List Float} → (f ≡ 0 → ⊥) → array ≡ written (mirror low) (length low) zeros → f ≤ length array
   mirror_room {array} n e =

@@ -95,10 +95,10 @@ pub right_rest : (n f : ℕ) → GoodTaps f → right_pad n f ≡ 2 * pairs n f 
 right_rest n f g = omega (arith, left_pad_lem n f g, g.two)
 
 -- ---- making
-pub refused_bank : {b : Border} {r : Making} {bank : Bank} (new : Bank) → r ≡ making.Taps → bank ≡ Banks.no_bank b → bank ≡ when_done (Banks.number_of r) new (Banks.no_bank b)
+pub refused_bank : {b : Border} {r : Making} {bank : Bank Float} (new : Bank Float) → r ≡ making.Taps → bank ≡ Banks.no_bank b → bank ≡ when_done (Banks.number_of r) new (Banks.no_bank b)
 refused_bank {b} new e q = q ∙ sym (ap (λ (k : Making). when_done (Banks.number_of k) new (Banks.no_bank b)) e)
 
-pub made_bank : {b : Border} {r : Making} {bank : Bank} {l h sl sh l' h' sl' sh' : List Float} {f : ℕ}
+pub made_bank : {b : Border} {r : Making} {bank : Bank Float} {l h sl sh l' h' sl' sh' : List Float} {f : ℕ}
     → r ≡ making.Done → bank ≡ Banks.held_in l h sl sh f b → l ≡ l' → h ≡ h' → sl ≡ sl' → sh ≡ sh'
     → bank ≡ when_done (Banks.number_of r) (Banks.held_in l' h' sl' sh' f b) (Banks.no_bank b)
 made_bank e q l h sl sh = q ∙ rw (e, l, h, sl, sh) refl

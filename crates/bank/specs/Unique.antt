@@ -8,15 +8,15 @@ use Rattle.bank.specs.declared.sizes.Size.{Size}
 use Rattle.bank.specs.Banks.{BankMade, MirrorMade, PairsMade, Mirrored}
 use Rattle.bank.specs.Sizes.{BandSized, LineSized, ScratchSized}
 
-pub unique_bank : {low high : List Float} {b : Border} {r r' : Making} {bank bank' : Bank}
+pub unique_bank : {low high : List Float} {b : Border} {r r' : Making} {bank bank' : Bank Float}
     → BankMade low high b r bank → BankMade low high b r' bank' → (r ≡ r') × (bank ≡ bank')
 unique_bank p q = let e = p.answer ∙ sym q.answer in (e, (cc))
 
-pub unique_mirrored : {low : List Float} {b : Border} {r r' : Making} {bank bank' : Bank}
+pub unique_mirrored : {low : List Float} {b : Border} {r r' : Making} {bank bank' : Bank Float}
     → MirrorMade low b r bank → MirrorMade low b r' bank' → (r ≡ r') × (bank ≡ bank')
 unique_mirrored p q = let e = p.answer ∙ sym q.answer in (e, (cc))
 
-pub unique_two_pairs : {low high sl sh : List Float} {b : Border} {r r' : Making} {bank bank' : Bank}
+pub unique_two_pairs : {low high sl sh : List Float} {b : Border} {r r' : Making} {bank bank' : Bank Float}
     → PairsMade low high sl sh b r bank → PairsMade low high sl sh b r' bank' → (r ≡ r') × (bank ≡ bank')
 unique_two_pairs p q = let e = p.answer ∙ sym q.answer in (e, (cc))
 

@@ -11,11 +11,11 @@ use border::Border;
 
 // Both tap lists of the way there and both of the way back, `taps` of each array in use, and the border.
 #[derive(Clone, Copy)]
-pub struct Bank {
-    pub low: [f64; 64],
-    pub high: [f64; 64],
-    pub lowback: [f64; 64],
-    pub highback: [f64; 64],
+pub struct Bank<R: Copy = f64> {
+    pub low: [R; 64],
+    pub high: [R; 64],
+    pub lowback: [R; 64],
+    pub highback: [R; 64],
     pub taps: usize,
     pub border: Border,
 }

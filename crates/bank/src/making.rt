@@ -4,8 +4,9 @@ ghost use Rattle.bank.specs.Banks.{answer_of_four, held_in, no_bank, BankMade, M
 
 use crate::Bank;
 use crate::sizes::bad_taps;
-use crate::work::{held, low_pass_to_high};
+use crate::work::{held, low_pass_to_high, zeros};
 use border::Border;
+use numbers::real::Real;
 
 #[derive(Drop)]
 pub enum Making {
@@ -15,20 +16,20 @@ pub enum Making {
 
 // The answer, and the bank beside it: of no taps where it is refused.
 #[derive(Drop)]
-pub struct Made {
+pub struct Made<R: Copy = f64> {
     pub answer: Making,
-    pub bank: Bank,
+    pub bank: Bank<R>,
 }
 
-fn done(
-    low: [f64; 64],
-    high: [f64; 64],
-    lowback: [f64; 64],
-    highback: [f64; 64],
+fn done<R: Real>(
+    low: [R; 64],
+    high: [R; 64],
+    lowback: [R; 64],
+    highback: [R; 64],
     taps: usize,
     border: Border,
-) -> Made
-    ensures { (result.answer ≡ Making.Done) × (held_in result.bank.low result.bank.high result.bank.lowback result.bank.highback result.bank.taps result.bank.border ≡ held_in low high lowback highback taps border) }
+) -> Made<R>
+    ensures { (result.answer ≡ Making.Done) × (held_in (R.floats result.bank.low) (R.floats result.bank.high) (R.floats result.bank.lowback) (R.floats result.bank.highback) result.bank.taps result.bank.border ≡ held_in (R.floats low) (R.floats high) (R.floats lowback) (R.floats highback) taps border) }
 {
     Made {
         answer: Making::Done,
@@ -43,30 +44,27 @@ fn done(
     }
 }
 
-fn refused(border: Border) -> Made
-    ensures { (result.answer ≡ Making.Taps) × (held_in result.bank.low result.bank.high result.bank.lowback result.bank.highback result.bank.taps result.bank.border ≡ no_bank border) }
+fn refused<R: Real>(border: Border) -> Made<R>
+    ensures { (result.answer ≡ Making.Taps) × (held_in (R.floats result.bank.low) (R.floats result.bank.high) (R.floats result.bank.lowback) (R.floats result.bank.highback) result.bank.taps result.bank.border ≡ no_bank border) }
 {
     Made {
         answer: Making::Taps,
         bank: Bank {
-            low: [0.0f64; 64],
-            high: [0.0f64; 64],
-            lowback: [0.0f64; 64],
-            highback: [0.0f64; 64],
+            low: zeros(),
+            high: zeros(),
+            lowback: zeros(),
+            highback: zeros(),
             taps: 0,
             border,
         },
     }
 }
 
-pub fn bank(low: &[f64], high: &[f64], border: Border) -> Made
-    ensures { BankMade low.now high.now border result.answer (held_in result.bank.low result.bank.high result.bank.lowback result.bank.highback result.bank.taps result.bank.border) }
+pub fn bank<R: Real>(low: &[R], high: &[R], border: Border) -> Made<R>
+    ensures { BankMade (R.floats low.now) (R.floats high.now) border result.answer (held_in (R.floats result.bank.low) (R.floats result.bank.high) (R.floats result.bank.lowback) (R.floats result.bank.highback) result.bank.taps result.bank.border) }
 {
     let f = low.len();
-    if bad_taps(f) {
-        return refused(border);
-    }
-    if high.len() != f {
+    if bad_taps(f) || high.len() != f {
         return refused(border);
     }
     let l = held(low);
@@ -75,8 +73,8 @@ pub fn bank(low: &[f64], high: &[f64], border: Border) -> Made
 }
 
 // A bank whose high taps follow from the low ones.
-pub fn mirrored(low: &[f64], border: Border) -> Made
-    ensures { MirrorMade low.now border result.answer (held_in result.bank.low result.bank.high result.bank.lowback result.bank.highback result.bank.taps result.bank.border) }
+pub fn mirrored<R: Real>(low: &[R], border: Border) -> Made<R>
+    ensures { MirrorMade (R.floats low.now) border result.answer (held_in (R.floats result.bank.low) (R.floats result.bank.high) (R.floats result.bank.lowback) (R.floats result.bank.highback) result.bank.taps result.bank.border) }
 {
     let f = low.len();
     if bad_taps(f) {
@@ -91,30 +89,21 @@ pub fn mirrored(low: &[f64], border: Border) -> Made
 pub fn pairs_answer(low: usize, high: usize, lowback: usize, highback: usize) -> Making
     ensures { result ≡ answer_of_four low high lowback highback }
 {
-    if bad_taps(low) {
-        return Making::Taps;
-    }
-    if high != low {
-        return Making::Taps;
-    }
-    if lowback != low {
-        return Making::Taps;
-    }
-    if highback != low {
+    if bad_taps(low) || high != low || lowback != low || highback != low {
         return Making::Taps;
     }
     Making::Done
 }
 
 // A bank whose way back has a pair of its own.
-pub fn two_pairs(
-    low: &[f64],
-    high: &[f64],
-    lowback: &[f64],
-    highback: &[f64],
+pub fn two_pairs<R: Real>(
+    low: &[R],
+    high: &[R],
+    lowback: &[R],
+    highback: &[R],
     border: Border,
-) -> Made
-    ensures { PairsMade low.now high.now lowback.now highback.now border result.answer (held_in result.bank.low result.bank.high result.bank.lowback result.bank.highback result.bank.taps result.bank.border) }
+) -> Made<R>
+    ensures { PairsMade (R.floats low.now) (R.floats high.now) (R.floats lowback.now) (R.floats highback.now) border result.answer (held_in (R.floats result.bank.low) (R.floats result.bank.high) (R.floats result.bank.lowback) (R.floats result.bank.highback) result.bank.taps result.bank.border) }
 {
     let answer = pairs_answer(low.len(), high.len(), lowback.len(), highback.len());
     let Making::Done = answer else {

@@ -16,16 +16,11 @@ pub enum Size {
 }
 
 // Odd, none, or over 64.
+#[tactic(auto, unfolding(crate::specs::Lengths::bad_taps))]
 pub fn bad_taps(f: usize) -> bool
     ensures { result ≡ bad_taps f }
 {
-    if f % 2 != 0 {
-        return true;
-    }
-    if f == 0 {
-        return true;
-    }
-    64 < f
+    f % 2 != 0 || f == 0 || 64 < f
 }
 
 // How long each band of n samples is.

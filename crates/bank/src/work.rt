@@ -3,38 +3,50 @@ ghost use Rattle.std.specs.Prelude.{◌≡◌, ◌≤◌, length};
 ghost use Rattle.numbers.specs.Words.{at, written};
 ghost use Rattle.bank.specs.Banks.{signed, mirror, zeros};
 
-// The taps in an array, zeros behind them.
-pub fn held(taps: &[f64]) -> [f64; 64]
-    requires { length taps.now ≤ 64 }
-    ensures { result ≡ written (at taps.now) (length taps.now) zeros }
+use numbers::copying::copy_to;
+use numbers::real::Real;
+
+// An array of taps before any is in it.
+pub fn zeros<R: Real>() -> [R; 64]
+    ensures { R.floats result ≡ zeros }
 {
-    let mut a = [0.0f64; 64];
-    let mut j = 0usize;
-    while j < taps.len() {
-        a[j] = taps[j];
-        j += 1;
-    }
+    [R::zero(); 64]
+}
+
+// The taps in an array, zeros behind them.
+pub fn held<R: Real>(taps: &[R]) -> [R; 64]
+    requires { length taps.now ≤ 64 }
+    ensures { R.floats result ≡ written (at (R.floats taps.now)) (length taps.now) zeros }
+{
+    let mut a = zeros();
+    copy_to(taps, &mut a, 0);
     a
 }
 
 // Signs alternate over j.
-fn signed(j: usize, x: f64) -> f64
-    ensures { result ≡ signed j x }
+fn signed<R: Real>(j: usize, x: R) -> R
+    ensures { R.float result ≡ signed j (R.float x) }
 {
     if j % 2 == 0 { x } else { -x }
 }
 
-// The high taps of the mirror rule.
-pub fn low_pass_to_high(low: &[f64]) -> [f64; 64]
-    requires { length low.now ≤ 64 }
-    ensures { result ≡ written (mirror low.now) (length low.now) zeros }
+// The high taps of the mirror rule, over the front of a list that has room for them.
+pub fn mirror_to<R: Real>(low: &[R], high: &mut [R])
+    requires { length low.now ≤ length high.old }
+    ensures { R.floats high.new ≡ written (mirror (R.floats low.now)) (length low.now) (R.floats high.old) }
 {
     let f = low.len();
-    let mut a = [0.0f64; 64];
-    let mut j = 0usize;
-    while j < f {
-        a[j] = signed(j, low[f - 1 - j]);
-        j += 1;
+    for j in 0..f {
+        high[j] = signed(j, low[f - 1 - j]);
     }
+}
+
+// The same in an array, zeros behind them.
+pub fn low_pass_to_high<R: Real>(low: &[R]) -> [R; 64]
+    requires { length low.now ≤ 64 }
+    ensures { R.floats result ≡ written (mirror (R.floats low.now)) (length low.now) zeros }
+{
+    let mut a = zeros();
+    mirror_to(low, &mut a);
     a
 }

@@ -1,7 +1,7 @@
 -- Laws of a line that lies in the buffer of its padded line: it is moved to its place, and then padded there.
 use Rattle.std.specs.Prelude.{◌≡◌, List, ◌++◌, ℕ, ◌+◌, ◌-◌, ◌≤◌, ◌<◌, length, get_or, take, drop, Float}
 use Rattle.std.proofs.Math.Path.{refl}
-use Rattle.std.proofs.Common.{sym, ap, ◌∙◌, arith, length-drop, ext_get_or, length-take-le}
+use Rattle.std.proofs.Common.{sym, ap, ◌∙◌, arith, append_assoc, drop-drop, length-drop, ext_get_or, length-take-le}
 use Rattle.std.specs.Float.{nan}
 use borrow.Rule.Slice.PartMut.{put_mid}
 use Rattle.numbers.specs.Words.{plus_zero, at, tab, written, placed}
@@ -75,3 +75,14 @@ part_tab x from n h =
     let l : length (take n (drop from x)) ≡ n = length-take-le n (drop from x) (omega (arith, length-drop from x)) in
     ext_get_or nan (tab (λ k. at x (from + k)) n) (take n (drop from x)) (length-tab (λ k. at x (from + k)) n ∙ sym l)
     (λ i k. let q : i < n = omega (arith, length-tab (λ k. at x (from + k)) n) in get_or-tab (λ k. at x (from + k)) n i nan q ∙ sym (get_or_part nan from n x i q))
+
+-- a part that is copied to another place of the list
+pub moved_part : (x : List Float) (from n to : ℕ) → from + n ≤ length x
+    → (take to x ++ take (from + n - from) (drop from x)) ++ drop (to + (from + n - from)) x ≡ placed (λ k. at x (from + k)) to n x
+unfolding placed written
+moved_part x from n to h =
+    let e : from + n - from ≡ n = omega arith in
+    ap (λ (k : ℕ). (take to x ++ take k (drop from x)) ++ drop (to + k) x) e
+    ∙ append_assoc (take to x) (take n (drop from x)) (drop (to + n) x)
+    ∙ ap (λ (l : List Float). take to x ++ (l ++ drop (to + n) x)) (sym (part_tab x from n h))
+    ∙ ap (λ (l : List Float). take to x ++ (tab (λ k. at x (from + k)) n ++ l)) (sym (drop-drop n to x))

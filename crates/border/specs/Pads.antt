@@ -1,6 +1,6 @@
 -- Laws of padding: the samples are put in place, then both ends are filled, and that is the padded line.
 use Rattle.std.specs.Prelude.{◌≡◌, List, ◌++◌, ℕ, ◌+◌, ◌-◌, ◌≤◌, ◌<◌, length, get_or, take, drop, Float}
-use Rattle.std.proofs.Common.{sym, ap, ◌∙◌, inl, inr, ⊎_elim, zero-add, le_refl, arith, length-take-le, length-drop}
+use Rattle.std.proofs.Common.{sym, ap, ◌∙◌, subst, inl, inr, ⊎_elim, zero-add, le_refl, arith, length-take-le, length-drop}
 use Rattle.std.proofs.Math.Decide.{dec_lt}
 use Rattle.std.specs.Float.{nan}
 use Rattle.numbers.specs.Words.{plus_zero, at, tab, written, placed}
@@ -98,3 +98,13 @@ pad_all b line x left right p room y e =
     let t : drop (left + n + right) y ≡ drop (left + n + right) x = ap (drop (left + n + right)) e ∙ drop-behind (λ k. at line k) left n x (left + n + right) (omega arith) (omega arith) in
     ap (λ (l : List Float). tab (padded plus_zero b l left) (left + n + right) ++ drop (left + n + right) y) q
     ∙ ap (λ (l : List Float). tab (padded plus_zero b line left) (left + n + right) ++ l) t
+
+-- of a line of n
+pub pad_all_by : (b : Border) (line x : List Float) (left right n : ℕ) → length line ≡ n → Paddable b n left right → left + n + right ≤ length x
+    → (y : List Float) → y ≡ placed (at line) left n x
+    → written (padded plus_zero b (take n (drop left y)) left) (left + n + right) y ≡ written (padded plus_zero b line left) (left + n + right) x
+pad_all_by b line x left right n e =
+    subst
+    (λ (k : ℕ). Paddable b k left right → left + k + right ≤ length x → (y : List Float) → y ≡ placed (at line) left k x
+    → written (padded plus_zero b (take k (drop left y)) left) (left + k + right) y ≡ written (padded plus_zero b line left) (left + k + right) x)
+    e (pad_all b line x left right)

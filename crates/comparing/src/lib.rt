@@ -19,13 +19,11 @@ pub enum Compared {
 }
 
 // The tests, on sides and lengths alone: equal, as far as these tell.
+#[tactic(auto, using(tables::specs::Sides::within_limits), unfolding(crate::specs::Comparings::tests_of))]
 pub fn comparing_answer(width: usize, height: usize, first: usize, second: usize) -> Compared
     ensures { result ≡ tests_of width height first second }
 {
-    if width == 0 {
-        return Compared::ZeroedBaseSize;
-    }
-    if height == 0 {
+    if width == 0 || height == 0 {
         return Compared::ZeroedBaseSize;
     }
     if too_large(width, height) {
@@ -42,6 +40,7 @@ pub fn comparing_answer(width: usize, height: usize, first: usize, second: usize
 }
 
 // The column and the row of the first place in stored order where the bits differ, or equal.
+#[tactic(auto, using(crate::specs::Tested::refused, crate::specs::Tested::all_passed))]
 pub fn compare_bands(first: &[f64], second: &[f64], width: usize, height: usize) -> Compared
     ensures { BandsCompared first.now second.now width height result }
 {

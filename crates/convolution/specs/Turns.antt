@@ -14,7 +14,7 @@ use Rattle.border.specs.Rule.{padded}
 use Rattle.convolution.specs.Pads.{left_pad}
 use Rattle.numbers.specs.Places.{get_or-placed_in, tab_same, placed_front}
 use Rattle.std.proofs.Math.Decide.{dec_lt}
-use Rattle.convolution.specs.Works.{kernel_sum, more, place_of, product, sum_from}
+use Rattle.convolution.specs.Works.{Summed, kernel_sum, more, place_of, product, sum_from}
 
 -- a loop over the taps: the first product, and one more tap
 sum_start : (f : Format) (kernel line : List Float) (x : ℕ) {r : Float} → r ≡ mul f (at line x) (at kernel 0) → r ≡ kernel_sum f kernel line x (1 - 1)
@@ -96,6 +96,10 @@ module _ {A : Type 0} (nothing : A) (g : ℕ → A) where
 
   pub first_all : (x n : ℕ) (l : List A) → x ≡ n → length l ≡ n → take x l ≡ tab g x → l ≡ tab g n
   first_all x n l a b e = sym (take_all x l (omega arith)) ∙ e ∙ ap (tab g) a
+
+-- no place of an output is done yet
+pub summed_none : (f : Format) (kernel line out : List Float) → Summed f kernel line 0 out
+summed_none f kernel line out = first_none nan (place_of f kernel line) out
 
 -- lines that agree under the kernel have one sum
 convolved_same : (f : Format) (tap x y : ℕ → Float) (n : ℕ) → ((i : ℕ) → i ≤ n → x i ≡ y i) → convolved f tap x n ≡ convolved f tap y n

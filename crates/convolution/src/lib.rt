@@ -6,17 +6,17 @@ pub mod reach;
 pub mod work;
 
 ghost use Rattle.std.specs.Prelude.{◌≡◌};
-ghost use Rattle.std.specs.Float.{binary64};
 ghost use Rattle.convolution.specs.Pads.{centre_of};
 ghost use Rattle.convolution.specs.Convolutions.{answer_of, Convolved};
 
 use crate::pads::{beyond, split};
-use crate::reach::{from_filter, size, too_far};
+use crate::reach::{Pads, from_filter, size, too_far};
 use crate::work::sums;
 use border::Border;
 use border::pad::pad;
 use border::rule::Place;
 use numbers::copying::copy_to;
+use numbers::real::Real;
 
 #[derive(Drop)]
 pub enum Convolution {
@@ -30,6 +30,7 @@ pub enum Convolution {
 }
 
 // The tests, on lengths, the centre and the border alone.
+#[tactic(auto, using(crate::specs::Tested::kernel_of, crate::specs::Places::nears, crate::specs::Places::within), unfolding(crate::specs::Convolutions::answer_of))]
 pub fn convolution_answer(
     border: Border,
     line: usize,
@@ -52,9 +53,7 @@ pub fn convolution_answer(
     if f == 0 {
         return Convolution::Done;
     }
-    let p = from_filter(f, centre);
-    let left = p.left;
-    let right = p.right;
+    let Pads { left, right } = from_filter(f, centre);
     let need = line + left + right;
     if scratch < need {
         return Convolution::ScratchSize {
@@ -73,16 +72,17 @@ pub fn convolution_answer(
 }
 
 // The convolution of a line, by way of the padded line at the front of the scratch; an empty kernel copies.
-pub fn convolve(
+#[tactic(auto, using(crate::specs::Tested::convolving, crate::specs::Tested::copying))]
+pub fn convolve<R: Real>(
     border: Border,
-    line: &[f64],
-    out: &mut [f64],
-    scratch: &mut [f64],
-    kernel: &[f64],
+    line: &[R],
+    out: &mut [R],
+    scratch: &mut [R],
+    kernel: &[R],
     centre: i64,
 ) -> Convolution
-    ensures { Convolved binary64 border line.now out.old scratch.old kernel.now centre
-        result out.new scratch.new }
+    ensures { Convolved R.format border (R.floats line.now) (R.floats out.old) (R.floats scratch.old) (R.floats kernel.now) centre
+        result (R.floats out.new) (R.floats scratch.new) }
 {
     let n = line.len();
     let f = kernel.len();
@@ -95,9 +95,7 @@ pub fn convolve(
         copy_to(line, out, 0);
         return Convolution::Done;
     }
-    let p = from_filter(f, place);
-    let left = p.left;
-    let right = p.right;
+    let Pads { left, right } = from_filter(f, place);
     let need = left + n + right;
     pad(border, line, left, right, scratch);
     sums(kernel, &scratch[..need], out);

@@ -26,22 +26,16 @@ pub fn split(centre: i64) -> Place
 }
 
 // More than 1,048,576 samples, more than 64 taps, or a centre that 32 bits do not hold.
+#[tactic(auto, using(crate::specs::Places::beyond_before, crate::specs::Places::beyond_at), unfolding(crate::specs::Pads::beyond))]
 pub fn beyond(n: usize, f: usize, centre: Place) -> bool
     ensures { result ≡ beyond n f (centre_of centre) }
 {
-    if LONGEST < n {
-        return true;
-    }
-    if 64 < f {
-        return true;
-    }
-    match centre {
-        Place::Before(k) => 2147483647 < k,
-        Place::At(c) => 2147483647 < c,
-    }
+    let (Place::Before(k) | Place::At(k)) = centre;
+    n > LONGEST || f > 64 || k > 2147483647
 }
 
 // How much scratch convolution of n samples with f taps about a centre needs: none for an empty kernel.
+#[tactic(auto, using(crate::specs::Tested::kernel_of, crate::specs::Places::nears, crate::specs::Places::within))]
 pub fn convolution_scratch(n: usize, f: usize, centre: i64) -> Scratch
     ensures { ScratchSized n f centre result }
 {

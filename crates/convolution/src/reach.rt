@@ -1,11 +1,10 @@
 // How far a kernel reaches about its centre, and whether its border reaches as far: for entries to share, sizes have been tested.
 ghost use Rattle.std.specs.Prelude.{◌≡◌, nat_abs};
-ghost use Rattle.convolution.specs.Pads.{pad_over, too_far, centre_of, left_pad, right_pad};
+ghost use Rattle.convolution.specs.Pads.{too_far, centre_of, left_pad, right_pad};
 ghost use Rattle.convolution.specs.Works.{Kernel, ShortPads, Small};
 
 use border::Border;
 use border::rule::Place;
-use numbers::less;
 
 #[derive(Drop)]
 pub struct Pads {
@@ -25,6 +24,7 @@ pub fn size(centre: Place) -> usize
 }
 
 // The places in front of a line.
+#[tactic(auto, using(crate::specs::Places::left_before, crate::specs::Places::left_at))]
 fn left_pad(f: usize, centre: Place) -> usize
     requires { Kernel f (centre_of centre) }
     ensures { result ≡ left_pad f (centre_of centre) }
@@ -32,7 +32,7 @@ fn left_pad(f: usize, centre: Place) -> usize
     let half = (f - 1) / 2;
     match centre {
         Place::Before(k) => half + (k + 1),
-        Place::At(c) => less(half, c),
+        Place::At(c) => half.saturating_sub(c),
     }
 }
 
@@ -43,31 +43,15 @@ pub fn from_filter(f: usize, centre: Place) -> Pads
     let left = left_pad(f, centre);
     Pads {
         left,
-        right: less(f, left),
+        right: f.saturating_sub(left),
     }
 }
 
-// A pad over n - 2, with n above 1.
-fn over(n: usize, left: usize, right: usize) -> bool
-    requires { ShortPads left right }
-    ensures { result ≡ pad_over n left right }
-{
-    if n <= 1 {
-        return false;
-    }
-    if n < left + 2 {
-        return true;
-    }
-    n < right + 2
-}
-
-// Reflect101 alone does not reach that far.
+// Reflect101 alone does not reach over n - 2, with n above 1.
+#[tactic(auto, unfolding(crate::specs::Pads::pad_over))]
 pub fn too_far(border: Border, n: usize, left: usize, right: usize) -> bool
     requires { ShortPads left right }
     ensures { result ≡ too_far border n left right }
 {
-    match border {
-        Border::Reflect101 => over(n, left, right),
-        _ => false,
-    }
+    n > 1 && (n < left + 2 || n < right + 2) && matches!(border, Border::Reflect101)
 }

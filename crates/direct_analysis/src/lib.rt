@@ -19,6 +19,7 @@ use numbers::LONGEST;
 const ROOM: usize = 2 * LONGEST;
 
 // The tests, on lengths alone: those of the first engine without 5.
+#[tactic(auto, using(crate::specs::Tested::roomy))]
 pub fn direct_answer(f: usize, n: usize, approx: usize, detail: usize) -> Analysis
     ensures { result ≡ answer_of f n approx detail }
 {

@@ -17,11 +17,9 @@ fn before(border: Border, line: &[f64], k: usize) -> f64
     match border {
         Border::Clamp => line[0],
         Border::Wrap => line[n - 1 - k],
-        Border::Reflect => line[k],
+        Border::Reflect | Border::Mirror => line[k],
+        Border::Reflect101 | Border::Mirror101 => line[k + 1],
         Border::Zeros => 0.0,
-        Border::Reflect101 => line[k + 1],
-        Border::Mirror => line[k],
-        Border::Mirror101 => line[k + 1],
     }
 }
 
@@ -34,15 +32,14 @@ fn behind(border: Border, line: &[f64], k: usize) -> f64
     match border {
         Border::Clamp => line[n - 1],
         Border::Wrap => line[k],
-        Border::Reflect => line[n - 1 - k],
+        Border::Reflect | Border::Mirror => line[n - 1 - k],
+        Border::Reflect101 | Border::Mirror101 => line[n - 2 - k],
         Border::Zeros => 0.0,
-        Border::Reflect101 => line[n - 2 - k],
-        Border::Mirror => line[n - 1 - k],
-        Border::Mirror101 => line[n - 2 - k],
     }
 }
 
 // Sample q of the line as it would be padded for f taps: f - 2 places stand in front.
+#[tactic(auto, using(crate::specs::Near::in_front, crate::specs::Near::in_line, crate::specs::Near::behind_line))]
 pub fn sample(border: Border, line: &[f64], f: usize, q: usize) -> f64
     requires { Asking f (length line.now) q }
     ensures { result ≡ padded_at f border line.now q }

@@ -32,6 +32,7 @@ fn tap(sums: Sums, low: f64, high: f64, x: f64) -> Sums
 }
 
 // Both sums over the padded samples from `from` on, each by the border rule.
+#[tactic(auto, using(summing::specs::Turns::dot_start, summing::specs::Turns::dot_step))]
 pub fn by_rule(
     low: &[f64],
     high: &[f64],
@@ -48,16 +49,15 @@ pub fn by_rule(
         approx: 0.0,
         detail: 0.0,
     };
-    let mut j = 0usize;
-    while j < f {
+    for j in 0..f {
         let x = sample(border, line, f, from + j);
         sums = tap(sums, low[j], high[j], x);
-        j += 1;
     }
     sums
 }
 
 // Both sums over the samples from `from` on, and from two further on.
+#[tactic(auto, using(summing::specs::Turns::dot_start, summing::specs::Turns::dot_step))]
 pub fn two_within(low: &[f64], high: &[f64], f: usize, line: &[f64], from: usize) -> Two
     requires { Lying f (length low.now) (length high.now) (length line.now) from }
     ensures { (result.first.approx ≡ line_sum binary64 low.now line.now from f)
@@ -73,11 +73,9 @@ pub fn two_within(low: &[f64], high: &[f64], f: usize, line: &[f64], from: usize
         approx: 0.0,
         detail: 0.0,
     };
-    let mut j = 0usize;
-    while j < f {
+    for j in 0..f {
         first = tap(first, low[j], high[j], line[from + j]);
         second = tap(second, low[j], high[j], line[from + 2 + j]);
-        j += 1;
     }
     Two { first, second }
 }

@@ -5,10 +5,11 @@ ghost use Rattle.numbers.specs.Words.{replaced};
 ghost use Rattle.analysis.specs.Lines.{band};
 ghost use Rattle.direct_analysis.specs.Works.{Direct, ruled_at, line_at};
 
-use crate::sums::{by_rule, two_within};
+use crate::sums::{Two, by_rule, two_within};
 use border::Border;
 
 // The places from `from` to `end`, each sample by the border rule.
+#[tactic(auto, using(numbers::specs::Write::replaced_start, numbers::specs::Write::replaced_step))]
 fn ruled(
     low: &[f64],
     high: &[f64],
@@ -24,16 +25,15 @@ fn ruled(
     ensures { (approx.new ≡ replaced (ruled_at binary64 low.now f border line.now) from (end - from) approx.old)
         × (detail.new ≡ replaced (ruled_at binary64 high.now f border line.now) from (end - from) detail.old) }
 {
-    let mut i = from;
-    while i < end {
+    for i in from..end {
         let sums = by_rule(low, high, f, border, line, 2 * i);
         approx[i] = sums.approx;
         detail[i] = sums.detail;
-        i += 1;
     }
 }
 
 // Two places a turn whose samples all lie in the line, from `from` on; the answer is the first that is not done.
+#[tactic(auto, using(numbers::specs::Write::replaced_start, crate::specs::Runs::two_more, crate::specs::Runs::next_place))]
 fn within(
     low: &[f64],
     high: &[f64],
@@ -50,10 +50,9 @@ fn within(
 {
     let n = line.len();
     let mut i = from;
+    // i goes by twos, and where it stops is the answer
     while 2 * i + 3 < n {
-        let two = two_within(low, high, f, line, 2 * i + 2 - f);
-        let first = two.first;
-        let second = two.second;
+        let Two { first, second } = two_within(low, high, f, line, 2 * i + 2 - f);
         approx[i] = first.approx;
         approx[i + 1] = second.approx;
         detail[i] = first.detail;

@@ -30,6 +30,7 @@ fn gather(
     let mut sum = out[p];
     let mut i = p / 2;
     let mut j = f;
+    // j goes down by twos while i goes up by one
     while 2 <= j {
         j -= 2;
         sum = onto(sum, high[j + odd], detail[i], low[j + odd], approx[i]);
@@ -57,6 +58,7 @@ fn four(
     let mut fourth = out[2 * k + 3];
     let mut i = k;
     let mut j = f;
+    // j goes down by twos while i goes up by one
     while 2 <= j {
         j -= 2;
         let even_high = high[j];
@@ -80,6 +82,7 @@ fn four(
 }
 
 // Four places a turn, from the front; the answer is half of how many are done.
+#[tactic(auto, using(numbers::specs::Write::written_start, synthesis::specs::Runs::still_taking, crate::specs::Places::four_more))]
 fn fours(
     low: &[f64],
     high: &[f64],
@@ -93,6 +96,7 @@ fn fours(
 {
     let n = out.len();
     let mut k = 0usize;
+    // k goes by twos, and where it stops is the answer
     while 2 * k + 3 < n {
         four(low, high, f, approx, detail, k, out);
         k += 2;
@@ -101,6 +105,7 @@ fn fours(
 }
 
 // Every place, what is left of them one by one. The tap lists have one lifetime, so that a bank can lend its fields.
+#[tactic(auto, using(numbers::specs::Write::replaced_start, synthesis::specs::Runs::still_taking, crate::specs::Places::place_more))]
 pub fn gather_all<'a>(
     low: &'a [f64],
     high: &'a [f64],
@@ -112,10 +117,8 @@ pub fn gather_all<'a>(
     requires { Taking f (length low.now) (length high.now) (length approx.now) (length detail.now) (length out.old) }
     ensures { out.new ≡ synthesised binary64 f low.now high.now approx.now detail.now out.old }
 {
-    let mut p = 2 * fours(low, high, f, approx, detail, out);
-    while p < out.len() {
-        let sum = gather(low, high, f, approx, detail, out, p);
-        out[p] = sum;
-        p += 1;
+    let done = 2 * fours(low, high, f, approx, detail, out);
+    for p in done..out.len() {
+        out[p] = gather(low, high, f, approx, detail, out, p);
     }
 }

@@ -8,6 +8,7 @@ ghost use Rattle.dividing.specs.Divisions.{bad_divisor, divided, finished};
 use std::num::{nearest_u64_to_f64, truncating_f64_to_u64};
 
 // What is done to a joined line before it is trimmed and used.
+// no trait or closure: `finished` of specs/ goes by these cases, and two impls with laws would say them again
 #[derive(Clone, Copy)]
 pub enum Finish {
     Kept,
@@ -18,20 +19,15 @@ pub enum Finish {
 pub fn bad_divisor(s: f64) -> bool
     ensures { result ≡ bad_divisor binary64 s }
 {
-    if 0.0 < s && s <= 9007199254740992.0 {
-        return nearest_u64_to_f64(truncating_f64_to_u64(s)) != s;
-    }
-    true
+    !(0.0 < s && s <= 9007199254740992.0 && nearest_u64_to_f64(truncating_f64_to_u64(s)) == s)
 }
 
 // Each place divided by s.
 pub fn divide(line: &mut [f64], s: f64)
     ensures { line.new ≡ divided binary64 s line.old }
 {
-    let mut i = 0usize;
-    while i < line.len() {
-        line[i] = line[i] / s;
-        i += 1;
+    for x in line.iter_mut() {
+        *x /= s;
     }
 }
 

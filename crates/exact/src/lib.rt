@@ -2,12 +2,12 @@
 #![tactic(auto)]
 
 ghost use Rattle.std.specs.Prelude.{◌≡◌};
-ghost use Rattle.std.specs.Float.{binary64};
 ghost use Rattle.exact.specs.Backs.{answer_of, Returned};
 
 use analysis::lists::analyse;
 use analysis::{Analysis, analysis_answer};
 use bank::Bank;
+use numbers::real::Real;
 use synthesis::lists::synthesise;
 use synthesis::work::clear;
 use synthesis::{Synthesis, synthesis_answer};
@@ -43,16 +43,16 @@ pub fn back_answer(
 }
 
 // Both ways, one after the other, by the lists of one bank: each entry would copy its pair once more.
-pub fn there_and_back(
-    bank: Bank,
-    line: &[f64],
-    approx: &mut [f64],
-    detail: &mut [f64],
-    scratch: &mut [f64],
-    out: &mut [f64],
+pub fn there_and_back<R: Real>(
+    bank: Bank<R>,
+    line: &[R],
+    approx: &mut [R],
+    detail: &mut [R],
+    scratch: &mut [R],
+    out: &mut [R],
 ) -> Back
-    ensures { Returned binary64 bank.low bank.high bank.lowback bank.highback bank.taps bank.border line.now approx.old detail.old scratch.old out.old
-        result approx.new detail.new scratch.new out.new }
+    ensures { Returned R.format (R.floats bank.low) (R.floats bank.high) (R.floats bank.lowback) (R.floats bank.highback) bank.taps bank.border (R.floats line.now) (R.floats approx.old) (R.floats detail.old) (R.floats scratch.old) (R.floats out.old)
+        result (R.floats approx.new) (R.floats detail.new) (R.floats scratch.new) (R.floats out.new) }
 {
     let answer = back_answer(
         bank.taps,

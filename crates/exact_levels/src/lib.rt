@@ -18,6 +18,7 @@ pub enum LevelsBack {
 }
 
 // The tests: those of the way there, then those of the way back.
+#[tactic(auto, unfolding(crate::specs::Backs::answer_of))]
 pub fn levels_back_answer(
     n: usize,
     f: usize,

@@ -23,13 +23,8 @@ fn float(x: f64) {
 // The first n floats.
 pub fn front(label: &[u8], s: &[f64], n: usize) {
     number(label, n);
-    let mut i = 0usize;
-    while i < n {
-        if s.len() <= i {
-            return;
-        }
-        float(s[i]);
-        i += 1;
+    for x in s.iter().take(n) {
+        float(*x);
     }
 }
 

@@ -4,10 +4,8 @@
 pub mod depths;
 pub mod direct;
 pub mod lines;
-pub mod lines_f32;
 pub mod packing;
 pub mod places;
 pub mod planar;
 pub mod sizes;
 pub mod taps;
-pub mod taps_f32;

@@ -1,27 +1,27 @@
-// One line, for C.
-ghost use Rattle.std.specs.Float.{binary64};
+// One line of floats of either width, for C.
 ghost use Rattle.isferghul.specs.Lines.{AnalysisTold, SynthesisTold, ConvolutionTold};
 
 use analysis::lists::analyse;
 use bank::taps::taps_of;
 use convolution::convolve;
 use line_telling::told;
+use numbers::real::Real;
 use synthesis::lists::synthesise;
 use telling::borders::{border_of, no_border};
 use telling::told::one;
 
-pub fn isferghul_analyse<'a>(
+pub fn isferghul_analyse<'a, R: Real>(
     border: usize,
-    low: &'a [f64],
-    high: &'a [f64],
-    line: &[f64],
-    approx: &mut [f64],
-    detail: &mut [f64],
-    scratch: &mut [f64],
+    low: &'a [R],
+    high: &'a [R],
+    line: &[R],
+    approx: &mut [R],
+    detail: &mut [R],
+    scratch: &mut [R],
     carried: &mut [usize; 2],
 ) -> u64
-    ensures { AnalysisTold binary64 border low.now high.now line.now approx.old detail.old scratch.old carried.old
-        result approx.new detail.new scratch.new carried.new }
+    ensures { AnalysisTold R.format border (R.floats low.now) (R.floats high.now) (R.floats line.now) (R.floats approx.old) (R.floats detail.old) (R.floats scratch.old) carried.old
+        result (R.floats approx.new) (R.floats detail.new) (R.floats scratch.new) carried.new }
 {
     if no_border(border) {
         return one(26, border, carried);
@@ -33,32 +33,32 @@ pub fn isferghul_analyse<'a>(
 }
 
 // No border: synthesis reads none.
-pub fn isferghul_synthesise<'a>(
-    low: &'a [f64],
-    high: &'a [f64],
-    approx: &[f64],
-    detail: &[f64],
-    out: &mut [f64],
+pub fn isferghul_synthesise<'a, R: Real>(
+    low: &'a [R],
+    high: &'a [R],
+    approx: &[R],
+    detail: &[R],
+    out: &mut [R],
     carried: &mut [usize; 2],
 ) -> u64
-    ensures { SynthesisTold binary64 low.now high.now approx.now detail.now out.old carried.old result out.new carried.new }
+    ensures { SynthesisTold R.format (R.floats low.now) (R.floats high.now) (R.floats approx.now) (R.floats detail.now) (R.floats out.old) carried.old result (R.floats out.new) carried.new }
 {
     let f = taps_of(low.len(), high.len());
     let answer = synthesise(low, high, f, approx, detail, out);
     told::synthesis(answer, carried)
 }
 
-pub fn isferghul_convolve(
+pub fn isferghul_convolve<R: Real>(
     border: usize,
-    line: &[f64],
-    out: &mut [f64],
-    scratch: &mut [f64],
-    kernel: &[f64],
+    line: &[R],
+    out: &mut [R],
+    scratch: &mut [R],
+    kernel: &[R],
     centre: i64,
     carried: &mut [usize; 2],
 ) -> u64
-    ensures { ConvolutionTold binary64 border line.now out.old scratch.old kernel.now centre carried.old
-        result out.new scratch.new carried.new }
+    ensures { ConvolutionTold R.format border (R.floats line.now) (R.floats out.old) (R.floats scratch.old) (R.floats kernel.now) centre carried.old
+        result (R.floats out.new) (R.floats scratch.new) carried.new }
 {
     if no_border(border) {
         return one(26, border, carried);

@@ -5,7 +5,6 @@ ghost use Rattle.isferghul.specs.Levels.{holder, LevelsTold, RestoringTold, Divi
 use bank::taps::taps_of;
 use level_telling::told;
 use levels::lists::analyse_levels;
-use numbers::most;
 use packed::depth::restoring_need;
 use restoring::lists::{restore_divided, restore_levels};
 use telling::borders::{border_of, no_border};
@@ -37,7 +36,7 @@ pub fn isferghul_analyse_levels<'a>(
 fn holder_of(levels: usize) -> usize
     ensures { result ≡ holder levels }
 {
-    if most(levels, 1) % 2 == 0 {
+    if levels.max(1) % 2 == 0 {
         return 2;
     }
     1

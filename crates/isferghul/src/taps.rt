@@ -3,9 +3,10 @@ ghost use Rattle.isferghul.specs.Lines.{MirrorTold, PairsTold};
 
 use bank::making::{Making, pairs_answer};
 use bank::taps;
+use numbers::real::Real;
 
-pub fn isferghul_mirror(low: &[f64], high: &mut [f64]) -> u64
-    ensures { MirrorTold low.now high.old result high.new }
+pub fn isferghul_mirror<R: Real>(low: &[R], high: &mut [R]) -> u64
+    ensures { MirrorTold (R.floats low.now) (R.floats high.old) result (R.floats high.new) }
 {
     match taps::mirror(low, high) {
         Making::Done => 0,

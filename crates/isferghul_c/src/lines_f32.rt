@@ -1,8 +1,8 @@
-// One line of 32-bit floats, for C: the exports, each that of its name in `isferghul`.
+// One line of 32-bit floats, for C: the exports, each that of the same name without its end in `isferghul`.
 ghost use Rattle.std.specs.Float.{binary32};
 ghost use Rattle.isferghul.specs.Lines.{AnalysisTold, SynthesisTold, ConvolutionTold};
 
-use isferghul::lines_f32;
+use isferghul::lines;
 
 #[unsafe(no_mangle)]
 pub extern "C" fn isferghul_analyse_f32<'a>(
@@ -18,7 +18,7 @@ pub extern "C" fn isferghul_analyse_f32<'a>(
     ensures { AnalysisTold binary32 border low.now high.now line.now approx.old detail.old scratch.old carried.old
         result approx.new detail.new scratch.new carried.new }
 {
-    lines_f32::isferghul_analyse_f32(border, low, high, line, approx, detail, scratch, carried)
+    lines::isferghul_analyse(border, low, high, line, approx, detail, scratch, carried)
 }
 
 #[unsafe(no_mangle)]
@@ -32,7 +32,7 @@ pub extern "C" fn isferghul_synthesise_f32<'a>(
 ) -> u64
     ensures { SynthesisTold binary32 low.now high.now approx.now detail.now out.old carried.old result out.new carried.new }
 {
-    lines_f32::isferghul_synthesise_f32(low, high, approx, detail, out, carried)
+    lines::isferghul_synthesise(low, high, approx, detail, out, carried)
 }
 
 #[unsafe(no_mangle)]
@@ -48,5 +48,5 @@ pub extern "C" fn isferghul_convolve_f32(
     ensures { ConvolutionTold binary32 border line.now out.old scratch.old kernel.now centre carried.old
         result out.new scratch.new carried.new }
 {
-    lines_f32::isferghul_convolve_f32(border, line, out, scratch, kernel, centre, carried)
+    lines::isferghul_convolve(border, line, out, scratch, kernel, centre, carried)
 }

@@ -6,7 +6,7 @@ use mathlib.Core.List.{List, [], ◌∷◌, ◌++◌}
 use Prim.Native.Nat.{ℕ, zero, suc, ◌+◌, ◌-◌, ◌≤◌, ◌<◌, min}
 use borrow.Rule.Slice.PartMut.{put_mid}
 use Rattle.texts.specs.Laying.{laid}
-use Rattle.texts.specs.Laid.{laid_more, laid_lent, length-laid}
+use Rattle.texts.specs.Laid.{laid_more, laid_lent, laid_whole, length-laid}
 use Rattle.laying.specs.Lays.{Lays}
 
 module _ {A : Type 0} where
@@ -29,6 +29,15 @@ module _ {A : Type 0} where
       ∙ sym (laid_more (take i l) v x)
       ∙ ap (λ (m : List A). laid m x) (sym (take-suc l i d h))
       ∙ ap (λ (k : ℕ). laid (take k l) x) (sym (add-one i))
+
+  -- as far as either reaches, all at once
+  pub laid_front : (l x : List A) (n : ℕ) {y : List A} → n ≡ min (length l) (length x) → y ≡ take n l → y ++ drop n x ≡ laid l x
+  laid_front l x n {y} e f =
+      let many = length-take-le n l (omega (arith, e)) in
+      ap (λ (y : List A). y ++ drop n x) f
+      ∙ ap (λ (k : ℕ). take n l ++ drop k x) (sym many)
+      ∙ sym (laid_whole (take n l) x (omega (arith, e, many)))
+      ∙ laid_cut n l x (λ h. omega (arith, e, h))
 
 pub length_lays : {l x y : List ℕ} {r : ℕ} → Lays l x r y → length y ≡ length x
 length_lays {l} {x} p = ap length p.laying ∙ length-laid l x

@@ -23,10 +23,10 @@ fn digit(d: u64) -> u8
 fn pattern(x: f64) -> u64
     ensures { result ≡ to_bits binary64 x }
 {
-    if x != x {
+    if x.is_nan() {
         return 0x7FF8000000000000;
     }
-    f64::to_bits(x)
+    x.to_bits()
 }
 
 // The 16 digits of a float's bits, and the end of their line.
@@ -35,11 +35,9 @@ pub fn bits(x: f64, out: &mut [u8]) -> usize
 {
     let mut line = [b'\n'; 17];
     let mut rest = pattern(x);
-    let mut i = 16usize;
-    while 0 < i {
-        i -= 1;
+    for i in (0..16).rev() {
         line[i] = digit(rest % 16);
-        rest = rest / 16;
+        rest /= 16;
     }
     bytes(&line, out)
 }
@@ -51,9 +49,10 @@ pub fn decimal(n: u64, out: &mut [u8]) -> usize
     let mut line = [b'\n'; 21];
     let mut rest = n;
     let mut i = 19usize;
+    // Stops at the first digit, wherever that is.
     while 9 < rest {
         line[i] = digit(rest % 10);
-        rest = rest / 10;
+        rest /= 10;
         i -= 1;
     }
     line[i] = digit(rest);

@@ -5,16 +5,10 @@ pub mod digits;
 
 ghost use Rattle.laying.specs.Lays.{Lays};
 
-use numbers::least;
-
 pub fn bytes(text: &[u8], out: &mut [u8]) -> usize
     ensures { Lays text.now out.old result out.new }
 {
-    let n = least(text.len(), out.len());
-    let mut i = 0usize;
-    while i < n {
-        out[i] = text[i];
-        i += 1;
-    }
+    let n = text.len().min(out.len());
+    out[..n].copy_from_slice(&text[..n]);
     text.len()
 }

@@ -4,7 +4,6 @@
 ghost use Rattle.std.specs.Prelude.{◌≡◌};
 ghost use Rattle.level_parts.specs.Parts.{handing_of, HandedOut, Read};
 
-use numbers::most;
 use packed::depth::part_of;
 use packed::{Levels, packed_answer};
 
@@ -25,6 +24,7 @@ pub enum Reading {
 }
 
 // Whether a level's part is handed out.
+#[tactic(auto, unfolding(crate::specs::Parts::handing_of))]
 pub fn handing_answer(n: usize, f: usize, levels: usize, packed: usize, level: usize) -> Handing
     ensures { result ≡ handing_of n f levels packed level }
 {
@@ -32,13 +32,14 @@ pub fn handing_answer(n: usize, f: usize, levels: usize, packed: usize, level: u
     let Levels::Done = answer else {
         return Handing::Refused(answer);
     };
-    if most(levels, 1) < level {
+    if levels.max(1) < level {
         return Handing::NoSuchLevel(level);
     }
     Handing::Done
 }
 
 // A level's details, as that part of the packed buffer itself; the empty part where `handing_answer` refuses.
+#[tactic(auto, using(crate::proofs::Within::handed_within))]
 pub fn level_details<'a>(
     packed: &'a [f64],
     n: usize,
@@ -58,6 +59,7 @@ pub fn level_details<'a>(
 }
 
 // One place of a level.
+#[tactic(auto, using(crate::proofs::Within::held_within))]
 pub fn read_place(
     packed: &[f64],
     n: usize,
@@ -72,7 +74,7 @@ pub fn read_place(
     let Levels::Done = answer else {
         return Reading::Refused(answer);
     };
-    if most(levels, 1) < level {
+    if levels.max(1) < level {
         return Reading::NoSuchLevel(level);
     }
     let part = part_of(n, f, levels, level);

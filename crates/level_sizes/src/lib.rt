@@ -3,7 +3,6 @@
 
 ghost use Rattle.level_sizes.specs.Sizes.{PackedSized, ScratchSized, RestoringSized, MostSized, PartSized};
 
-use numbers::most;
 use packed::depth::{down, packed_need, part_of, restoring_need, scratch_need};
 use packed::{Levels, asked_answer};
 
@@ -72,7 +71,7 @@ pub fn level_part(n: usize, f: usize, levels: usize, level: usize) -> LevelPart
     let Levels::Done = answer else {
         return LevelPart::Refused(answer);
     };
-    if most(levels, 1) < level {
+    if levels.max(1) < level {
         return LevelPart::NoSuchLevel(level);
     }
     let part = part_of(n, f, levels, level);

@@ -12,6 +12,7 @@ use packed::depth::scratch_need;
 use packed::{Levels, packed_answer};
 
 // The tests, on lengths alone.
+#[tactic(auto, unfolding(crate::specs::Analyses::answer_of))]
 pub fn levels_answer(n: usize, f: usize, levels: usize, packed: usize, scratch: usize) -> Levels
     ensures { result ≡ answer_of n f levels packed scratch }
 {

@@ -6,7 +6,6 @@ ghost use Rattle.levels.specs.Analyses.{Analysed};
 use crate::levels_answer;
 use crate::work::split;
 use border::Border;
-use numbers::most;
 use packed::Levels;
 
 // A line over levels, into the packed buffer.
@@ -28,6 +27,6 @@ pub fn analyse_levels<'a>(
     let Levels::Done = answer else {
         return answer;
     };
-    split(low, high, f, border, line, most(levels, 1), packed, scratch);
+    split(low, high, f, border, line, levels.max(1), packed, scratch);
     Levels::Done
 }

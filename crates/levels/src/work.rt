@@ -50,13 +50,11 @@ pub fn split<'a>(
 {
     let mut start = 0usize;
     let mut n = line.len();
-    let mut k = 0usize;
-    while k < levels {
+    for k in 0..levels {
         pad_level(f, border, line, packed, k, start, n, scratch);
         n = dwt_length(n, f);
         let end = start + (n + n);
         bands_beside(low, high, f, scratch, &mut packed[start..end], n);
         start += n;
-        k += 1;
     }
 }

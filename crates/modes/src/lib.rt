@@ -2,45 +2,26 @@
 #![tactic(auto)]
 
 ghost use Rattle.std.specs.Prelude.{◌≡◌};
-ghost use Rattle.modes.specs.Names.{begins, front, mode_text, mode_of};
+ghost use Rattle.modes.specs.Names.{front, mode_text, mode_of};
 
 use border::{BORDERS, Border};
 
-#[derive(Drop)]
-pub enum Mode {
-    Unknown,
-    Found { border: Border, next: usize },
+// A border that was read, and where its line ends.
+#[derive(Clone, Copy)]
+pub struct Mode {
+    pub border: Border,
+    pub next: usize,
 }
 
-// Whether the text begins with the name.
-fn begins(text: &[u8], name: &[u8]) -> bool
-    ensures { result ≡ begins name.now text.now }
-{
-    let mut i = 0usize;
-    while i < name.len() {
-        if text.len() <= i {
-            return false;
-        }
-        if text[i] != name[i] {
-            return false;
-        }
-        i += 1;
-    }
-    true
-}
-
-// How long the name is, if the text begins with it, else 0.
-fn front(text: &[u8], name: &[u8]) -> usize
+// How long the name is, if the text begins with it.
+fn front(text: &[u8], name: &[u8]) -> Option<usize>
     ensures { result ≡ front name.now text.now }
 {
-    if begins(text, name) {
-        return name.len();
-    }
-    0
+    text.starts_with(name).then_some(name.len())
 }
 
 // The same of the border's line, each by its name.
-fn line_of(border: Border, text: &[u8]) -> usize
+fn line_of(border: Border, text: &[u8]) -> Option<usize>
     ensures { result ≡ front (mode_text border) text.now }
 {
     match border {
@@ -54,18 +35,14 @@ fn line_of(border: Border, text: &[u8]) -> usize
     }
 }
 
-// The border, and where its line ends.
-pub fn read_mode(text: &[u8]) -> Mode
+// The border whose line the text begins with.
+pub fn read_mode(text: &[u8]) -> Option<Mode>
     ensures { result ≡ mode_of text.now }
 {
-    let mut k = 0usize;
-    while k < BORDERS.len() {
-        let border = BORDERS[k];
-        let next = line_of(border, text);
-        if 0 < next {
-            return Mode::Found { border, next };
+    for border in BORDERS {
+        if let Some(next) = line_of(border, text) {
+            return Some(Mode { border, next });
         }
-        k += 1;
     }
-    Mode::Unknown
+    None
 }

@@ -1,9 +1,9 @@
 -- Laws of a line that is copied in runs: eight stores in a row are one run, and the rest behind them makes it whole.
-use Rattle.std.specs.Prelude.{◌≡◌, refl, List, ℕ, ◌+◌, ◌-◌, ◌≤◌, length, take, drop, set, Float}
-use Rattle.std.proofs.Common.{ap, ◌∙◌, arith, length-drop, length-take-le}
+use Rattle.std.specs.Prelude.{◌≡◌, refl, List, ◌++◌, ℕ, ◌+◌, ◌-◌, ◌≤◌, length, take, drop, set, Float}
+use Rattle.std.proofs.Common.{sym, ap, ◌∙◌, arith, length-drop, length-take-le}
 use Rattle.std.specs.Float.{nan}
-use Rattle.numbers.specs.Words.{at, placed}
-use Rattle.numbers.specs.Write.{placed_start, placed_step}
+use Rattle.numbers.specs.Words.{at, tab, written, placed}
+use Rattle.numbers.specs.Write.{placed_start, placed_step, tab_get_or}
 use Rattle.numbers.specs.Places.{get_or_part}
 use Rattle.numbers.specs.Runs.{placed_same, placed_more}
 
@@ -35,3 +35,11 @@ copied_on line x to n {x₁} h k e₁ e₂ =
     ∙ ap (placed (λ j. at line (n + j)) (to + n) m) e₁
     ∙ placed_more (at line) to x n m (omega arith)
     ∙ ap (λ (j : ℕ). placed (at line) to j x) all
+
+-- a line of n put whole in the place of as many numbers, from `to` on
+pub put_line : (line x : List Float) (to n : ℕ) → length line ≡ n → take to x ++ (line ++ drop (to + n - to) (drop to x)) ≡ placed (at line) to n x
+unfolding placed written
+put_line line x to n l =
+    let e : to + n - to ≡ n = omega arith in
+    ap (λ (m : ℕ). take to x ++ (line ++ drop m (drop to x))) e
+    ∙ ap (λ (t : List Float). take to x ++ (t ++ drop n (drop to x))) (sym (tab_get_or line nan) ∙ ap (tab (at line)) l)

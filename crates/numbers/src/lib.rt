@@ -2,6 +2,9 @@
 #![tactic(auto)]
 
 pub mod copying;
+pub mod narrow;
+pub mod real;
+pub mod wide;
 
 ghost use Rattle.std.specs.Prelude.{◌≡◌, ◌-◌, min, max};
 
@@ -15,26 +18,17 @@ pub const LARGEST: usize = 16777216;
 pub fn less(a: usize, b: usize) -> usize
     ensures { result ≡ a - b }
 {
-    if b < a {
-        return a - b;
-    }
-    0
+    a.saturating_sub(b)
 }
 
 pub fn least(a: usize, b: usize) -> usize
     ensures { result ≡ min a b }
 {
-    if a < b {
-        return a;
-    }
-    b
+    a.min(b)
 }
 
 pub fn most(a: usize, b: usize) -> usize
     ensures { result ≡ max a b }
 {
-    if a < b {
-        return b;
-    }
-    a
+    a.max(b)
 }

@@ -99,6 +99,9 @@ fallen n f (suc k) g e =
       bounded = bounded_next n f (details_to n f k) (line_after n f k) g.most g.two p.1 q.bounded;
     }
 
+-- what a turn of going down one level cites
+pub ruleset level_steps = (line_none, line_next, details_none, details_next, short_none, short_next, fallen)
+
 -- what is packed after k levels is no longer than after more of them: each splits its line into two bands that are as long together, at least
 pub room : (n f k levels : ℕ) → 2 ≤ f → k ≤ levels → details_to n f k + line_after n f k ≤ details_to n f levels + line_after n f levels
 unfolding line_after details_to

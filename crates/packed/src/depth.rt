@@ -5,7 +5,6 @@ ghost use Rattle.bank.specs.Lengths.{Sound, Analysable};
 ghost use Rattle.packed.specs.Works.{Split, Named, Down};
 
 use bank::lengths::{dwt_length, idwt_length, padded_length};
-use numbers::most;
 
 // So many levels, the details that they have together, and the line that they leave.
 #[derive(Drop)]
@@ -16,6 +15,7 @@ pub struct Depth {
 }
 
 // As many levels as are asked for, or as the line allows: each halves what it has above f - 1 samples.
+#[tactic(auto, using(crate::specs::Falls::level_steps))]
 pub fn down(n: usize, f: usize, levels: usize) -> Depth
     requires { Sound n f }
     ensures { Down n f levels result }
@@ -23,6 +23,7 @@ pub fn down(n: usize, f: usize, levels: usize) -> Depth
     let mut k = 0usize;
     let mut details = 0usize;
     let mut line = n;
+    // no `for`: it may end early, and then k is how far it came
     while k < levels && f <= line {
         line = dwt_length(line, f);
         details += line;
@@ -36,11 +37,12 @@ pub fn down(n: usize, f: usize, levels: usize) -> Depth
 }
 
 // How long the packed buffer is.
+#[tactic(auto, using(crate::specs::Tested::all_the_way, crate::specs::Falls::fallen))]
 pub fn packed_need(n: usize, f: usize, levels: usize) -> usize
     requires { Split n f levels }
     ensures { result ≡ packed_length n f levels }
 {
-    let deepest = down(n, f, most(levels, 1));
+    let deepest = down(n, f, levels.max(1));
     deepest.details + deepest.line
 }
 
@@ -73,7 +75,7 @@ pub fn part_of(n: usize, f: usize, levels: usize, level: usize) -> Part
     ensures { (result.start ≡ level_start n f levels level) × (result.count ≡ level_count n f levels level) }
 {
     if level == 0 {
-        let deepest = down(n, f, most(levels, 1));
+        let deepest = down(n, f, levels.max(1));
         return Part {
             start: deepest.details,
             count: deepest.line,

@@ -8,7 +8,7 @@ ghost use Rattle.packed.specs.Answers.{asked_of, held_of};
 
 use crate::depth::{down, packed_need};
 use bank::sizes::bad_taps;
-use numbers::{LONGEST, most};
+use numbers::LONGEST;
 
 #[derive(Drop)]
 pub enum Levels {
@@ -22,6 +22,7 @@ pub enum Levels {
 }
 
 // Whether each level that is asked for has a line to split.
+#[tactic(auto, using(crate::specs::Tested::not_all), unfolding(crate::specs::Answers::asked_of))]
 pub fn asked_answer(n: usize, f: usize, levels: usize) -> Levels
     ensures { result ≡ asked_of n f levels }
 {
@@ -31,7 +32,7 @@ pub fn asked_answer(n: usize, f: usize, levels: usize) -> Levels
     if LONGEST < n {
         return Levels::Limit;
     }
-    let asked = most(levels, 1);
+    let asked = levels.max(1);
     if down(n, f, asked).levels == asked {
         return Levels::Done;
     }
@@ -42,6 +43,7 @@ pub fn asked_answer(n: usize, f: usize, levels: usize) -> Levels
 }
 
 // The same, and then whether the packed buffer has its length.
+#[tactic(auto, unfolding(crate::specs::Answers::held_of))]
 pub fn packed_answer(n: usize, f: usize, levels: usize, packed: usize) -> Levels
     ensures { result ≡ held_of n f levels packed }
 {

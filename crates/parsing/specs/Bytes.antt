@@ -9,7 +9,7 @@ use Rattle.phases.specs.Phases.{value_of}
 use Rattle.parsing.specs.Steps.{separates, number_by, ended_by, kept_on}
 
 module _ (negative : Bool) (size c : ℕ) (out : List Float) (count : ℕ) where
-  abbrev Kept : List Float → ℕ → List Float → Type 0
+  abbrev pub Kept : List Float → ℕ → List Float → Type 0
   Kept items r out' = (r ≡ count + length items) × (out' ≡ kept_on items out count)
 
   pub not_ended : {t : Bool} → t ≡ separates c → not t ≡ true → Kept (number_by negative size c) count out

@@ -1,5 +1,5 @@
 -- Laws of whole texts: a text that stands for a request is read as its border and numbers; and what is read as such stands for one.
-use Rattle.std.specs.Prelude.{◌≡◌, refl, Bool, true, false, ◌&&◌, List, [], ◌∷◌, ◌++◌, ℕ, ◌≤◌, eqb, length, drop, ℤ}
+use Rattle.std.specs.Prelude.{◌≡◌, refl, Bool, true, ◌&&◌, List, [], ◌∷◌, ◌++◌, ℕ, ◌≤◌, eqb, length, drop, ℤ, Option, Some, None, is_some}
 use Rattle.std.proofs.Common.{sym, ap, ◌∙◌, subst, true≢false, append-nil, append_assoc, arith, eqb-true, length-append}
 use Rattle.std.specs.Float.{binary64}
 use Rattle.numbers.specs.Tests.{both}
@@ -10,8 +10,7 @@ use Rattle.border.specs.Rule.{borders}
 use Rattle.texts.specs.Texts.{newline, name_of, line_text, lists_text, longest_text, InRange, Request, Stands}
 use Rattle.texts.specs.Numerals.{either}
 use Rattle.modes.specs.declared.Mode.{Mode}
-use Rattle.modes.specs.declared.Mode.TheVariants.{Unknown, Found}
-use Rattle.modes.specs.Names.{begins, mode_text, found_in, mode_of}
+use Rattle.modes.specs.Names.{begins, mode_text, found, found_in, mode_of}
 use Rattle.parsing.specs.Steps.{Got, got, got_of, three, emptied, three_of}
 use Rattle.parsing.specs.Complete.{line_read}
 use Rattle.parsing.specs.Sound.{line_sound}
@@ -31,21 +30,20 @@ begins_fits name t e =
     let parts = length-append name (drop (length name) t) in
     omega arith
 
-abbrev pub border_in : Mode → Border
-border_in Unknown = Clamp
-border_in (Found border next) = border
+abbrev pub border_in : Option Mode → Border
+border_in None = Clamp
+border_in (Some m) = m.border
 
-abbrev pub next_in : Mode → ℕ
-next_in Unknown = 0
-next_in (Found border next) = next
+abbrev pub next_in : Option Mode → ℕ
+next_in None = 0
+next_in (Some m) = m.next
 
-abbrev pub is_found : Mode → Bool
-is_found Unknown = false
-is_found (Found border next) = true
+abbrev pub is_found : Option Mode → Bool
+is_found m = is_some m
 
 -- what was found is the front of the text
-abbrev Fronts : List ℕ → Mode → Type 0
-Fronts t m = (m ≡ Unknown → ⊥) → (t ≡ mode_text (border_in m) ++ drop (next_in m) t) × (next_in m ≤ length t)
+abbrev Fronts : List ℕ → Option Mode → Type 0
+Fronts t m = (m ≡ None → ⊥) → (t ≡ mode_text (border_in m) ++ drop (next_in m) t) × (next_in m ≤ length t)
 
 fronts_in : (t : List ℕ) (l : List Border) → Fronts t (found_in t l)
 fronts_in t [] = λ n. absurd (n refl)
@@ -54,10 +52,10 @@ fronts_in t (b ∷ l) = either (Fronts t) (begins (mode_text b) t) (λ e n. (beg
 fronts : (t : List ℕ) → Fronts t (mode_of t)
 fronts t = fronts_in t borders
 
-pub mode_inside : (t : List ℕ) (b : Border) (next : ℕ) → mode_of t ≡ Found b next → next ≤ length t
-mode_inside t b next e = subst (λ (n : ℕ). n ≤ length t) (ap next_in e) (fronts t (λ u. true≢false (sym (ap is_found e) ∙ ap is_found u))).1
+pub mode_inside : (t : List ℕ) (m : Mode) → mode_of t ≡ Some m → m.next ≤ length t
+mode_inside t m e = subst (λ (n : ℕ). n ≤ length t) (ap next_in e) (fronts t (λ u. true≢false (sym (ap is_found e) ∙ ap is_found u))).1
 
-mode_read : (b : Border) (r : List ℕ) → mode_of (mode_text b ++ r) ≡ Found b (length (mode_text b))
+mode_read : (b : Border) (r : List ℕ) → mode_of (mode_text b ++ r) ≡ found b (length (mode_text b))
 unfolding begins
 mode_read Clamp r = refl
 mode_read Wrap r = refl
@@ -85,7 +83,7 @@ three_read low high samples l h s =
 
 -- what is found in a text that stands for a request
 pub record Known (q : Request) (t : List ℕ) : Type 0 where
-  pub mode : mode_of t ≡ Found q.border (length (mode_text q.border))
+  pub mode : mode_of t ≡ found q.border (length (mode_text q.border))
   pub lists : three_of (drop (length (mode_text q.border)) t) ≡ three true (floats binary64 q.low) (floats binary64 q.high) (floats binary64 q.samples)
 
 pub known : (q : Request) (t : List ℕ) → Stands q t → Known q t
@@ -108,7 +106,7 @@ emptied_nil : (l : List ℕ) → emptied l ≡ true → l ≡ []
 emptied_nil [] e = refl
 emptied_nil (c ∷ l) e = absurd (true≢false (sym e))
 
-pub asked : (t : List ℕ) → length t ≤ longest_text → (mode_of t ≡ Unknown → ⊥) → (three_of (drop (next_in (mode_of t)) t)).readable ≡ true → Asked t
+pub asked : (t : List ℕ) → length t ≤ longest_text → (mode_of t ≡ None → ⊥) → (three_of (drop (next_in (mode_of t)) t)).readable ≡ true → Asked t
 asked t short m e =
     let behind = drop (next_in (mode_of t)) t in
     let low = got_of behind in

@@ -1,9 +1,10 @@
 -- Laws of the loop over a line: so far, what is left comes to the same as the whole line; a turn goes one byte further, and it stops where the line is closed or the text ends.
-use Rattle.std.specs.Prelude.{◌≡◌, refl, Bool, true, false, cond, ◌⊎◌, drop, Float}
+use Rattle.std.specs.Prelude.{◌≡◌, refl, Bool, true, false, cond, ◌⊎◌, drop, is_some, IfSome, Float}
+use Rattle.std.specs.Bool.{then_some}
 use Rattle.std.proofs.Math.Path.{sym, ap}
 use Rattle.std.proofs.Common.{◌∙◌, inl, inr, length-append, drop_of_length-le}
 use mathlib.Core.List.{List, [], ◌∷◌, ◌++◌, append-nil}
-use Prim.Native.Nat.{ℕ, suc, ◌+◌, ◌-◌, ◌≤◌, ◌<◌}
+use Prim.Native.Nat.{ℕ, suc, ◌+◌, ◌≤◌, ◌<◌}
 use native.Mathlib.Omega.{arith}
 use Rattle.std.proofs.Math.ListN.{length, get_or}
 use Rattle.numbers.specs.Tests.{cond_false}
@@ -13,7 +14,12 @@ use Rattle.phases.specs.declared.Phase.{Phase}
 use Rattle.phases.specs.declared.Phase.TheVariants.{Fresh, Next, Minus, Number, Closed, Broken}
 use Rattle.modes.specs.Fronts.{drop_at}
 use Rattle.phases.specs.Phases.{stepped, closed_at, value_of}
-use Rattle.parsing.specs.Steps.{separates, ended_by, kept_on, Got, got, line_from, got_of, LineRead}
+use Rattle.parsing.specs.declared.line.Line.{Line}
+use Rattle.parsing.specs.Steps.{separates, ended_by, kept_on, Got, got, line_from, got_of, LineEnds, LineRead}
+
+-- the place behind a line, and how many numbers it has
+abbrev pub line : ℕ → ℕ → Line
+line next count = record { next = next; count = count }
 
 -- so far: the text from `at` on, after the numbers, comes to the same as the whole line
 pub record Reached (text : List ℕ) (from : ℕ) (old out : List Float) (p : Phase) (at count : ℕ) : Type 0 where
@@ -57,22 +63,32 @@ stopped z p (c ∷ t) (inr e) = absurd (some e)
     some e = let l : length (c ∷ t) ≡ 0 = ap length e in absurd (omega (arith, l))
 
 module _ (text : List ℕ) (from : ℕ) (old out : List Float) (p : Phase) (at count : ℕ) (s : Reached text from old out p at count) where
-  pub ended : {closed : Bool} → closed ≡ closed_at p → (closed ≡ true) ⊎ (length text ≤ at) → LineRead text from old closed at count out
+  pub ended : {closed : Bool} → closed ≡ closed_at p → (closed ≡ true) ⊎ (length text ≤ at) → LineRead text from old (then_some closed (line at count)) out
   ended {closed} e h =
       let g : got closed s.numbers (drop at text) ≡ got_of (drop from text) =
       ap (λ (b : Bool). got b s.numbers (drop at text)) e ∙ sym (stopped s.numbers p (drop at text) (why h)) ∙ s.same in
       record {
-        whole = ap (λ (k : Got). k.closed) g;
-        counted = s.counted ∙ ap (λ (k : Got). length k.numbers) g;
-        left = ap (λ (k : Got). k.rest) g;
+        whole = some_then closed (line at count) ∙ ap (λ (k : Got). k.closed) g;
+        ends = then_ends closed (record {
+          counted = s.counted ∙ ap (λ (k : Got). length k.numbers) g;
+          left = ap (λ (k : Got). k.rest) g;
+          inside = s.inside;
+          fewer = s.further;
+        });
         put = s.put ∙ ap (λ (k : Got). laid k.numbers old) g;
-        inside = s.inside;
-        fewer = s.further;
       }
     where
       why : (closed ≡ true) ⊎ (length text ≤ at) → (closed_at p ≡ true) ⊎ (drop at text ≡ [])
       why (inl t) = inl (sym e ∙ t)
       why (inr l) = inr (drop_of_length-le text l)
+
+      some_then : (b : Bool) (l : Line) → is_some (then_some b l) ≡ b
+      some_then true l = refl
+      some_then false l = refl
+
+      then_ends : (b : Bool) {l : Line} → LineEnds text from (got_of (drop from text)) l → IfSome (then_some b l) (LineEnds text from (got_of (drop from text)))
+      then_ends true k = k
+      then_ends false k = tt
 
   pub gone_on : {out' : List Float} {q : Phase} {count' : ℕ} (d : ℕ) → at < length text → closed_at p ≡ false
       → (count' ≡ count + length (ended_by p (get_or text at d))) × (out' ≡ kept_on (ended_by p (get_or text at d)) out count) → q ≡ stepped p (get_or text at d)

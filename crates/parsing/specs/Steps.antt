@@ -1,10 +1,11 @@
 -- What the code does to a line and to three, and what its functions promise. Complete and Sound tie it to the texts. Definitions only.
-use Rattle.std.specs.Prelude.{◌≡◌, Bool, true, false, cond, ◌&&◌, ◌||◌, List, [], ◌∷◌, ◌++◌, ℕ, ◌+◌, ◌≤◌, eqb, length, drop, set, Float}
+use Rattle.std.specs.Prelude.{◌≡◌, Bool, true, false, cond, ◌&&◌, ◌||◌, List, [], ◌∷◌, ◌++◌, ℕ, ◌+◌, ◌≤◌, eqb, length, drop, set, Option, is_some, IfSome, Float}
 use Rattle.texts.specs.Laying.{laid}
 use Rattle.texts.specs.Texts.{newline, space}
 use Rattle.phases.specs.declared.Phase.{Phase}
 use Rattle.phases.specs.declared.Phase.TheVariants.{Fresh, Next, Minus, Number, Closed, Broken}
 use Rattle.phases.specs.Phases.{stepped, closed_at, value_of}
+use Rattle.parsing.specs.declared.line.Line.{Line}
 use Rattle.parsing.specs.declared.lists.Lists.{Lists}
 
 -- the number that a byte ends, if it ends one
@@ -44,13 +45,18 @@ line_from z p (c ∷ t) = cond (closed_at p) (got true z (c ∷ t)) (line_from (
 abbrev pub got_of : List ℕ → Got
 got_of t = line_from [] Fresh t
 
-pub record LineRead (text : List ℕ) (from : ℕ) (out : List Float) (closed : Bool) (next count : ℕ) (out' : List Float) : Type 0 where
-  pub whole : closed ≡ (got_of (drop from text)).closed
-  pub counted : count ≡ length (got_of (drop from text)).numbers
-  pub left : drop next text ≡ (got_of (drop from text)).rest
+-- where a line that came to g ends, and how many numbers it has
+pub record LineEnds (text : List ℕ) (from : ℕ) (g : Got) (l : Line) : Type 0 where
+  pub counted : l.count ≡ length g.numbers
+  pub left : drop l.next text ≡ g.rest
+  pub inside : l.next ≤ length text
+  pub fewer : from + l.count ≤ l.next
+
+-- a line is answered where it was closed, and its numbers are laid either way
+pub record LineRead (text : List ℕ) (from : ℕ) (out : List Float) (r : Option Line) (out' : List Float) : Type 0 where
+  pub whole : is_some r ≡ (got_of (drop from text)).closed
+  pub ends : IfSome r (LineEnds text from (got_of (drop from text)))
   pub put : out' ≡ laid (got_of (drop from text)).numbers out
-  pub inside : next ≤ length text
-  pub fewer : from + count ≤ next
 
 -- three lines one behind another
 pub record Three : Type 0 where
@@ -77,10 +83,15 @@ three_of t =
 abbrev pub all_of : Three → List Float
 all_of lists = lists.low ++ (lists.high ++ lists.samples)
 
-pub record ListsRead (text : List ℕ) (from : ℕ) (out : List Float) (r : Lists) (out' : List Float) : Type 0 where
-  pub whole : r.readable ≡ (three_of (drop from text)).readable
-  pub lows : r.low ≡ length (three_of (drop from text)).low
-  pub highs : r.high ≡ length (three_of (drop from text)).high
-  pub all : r.samples ≡ length (three_of (drop from text)).samples
-  pub put : out' ≡ laid (all_of (three_of (drop from text))) out
+-- how many numbers each has
+pub record Counts (text : List ℕ) (lists : Three) (r : Lists) : Type 0 where
+  pub lows : r.low ≡ length lists.low
+  pub highs : r.high ≡ length lists.high
+  pub all : r.samples ≡ length lists.samples
   pub few : r.low + r.high + r.samples ≤ length text
+
+-- they are answered where they are three lines and nothing after, and their numbers are laid either way
+pub record ListsRead (text : List ℕ) (from : ℕ) (out : List Float) (r : Option Lists) (out' : List Float) : Type 0 where
+  pub whole : is_some r ≡ (three_of (drop from text)).readable
+  pub counted : IfSome r (Counts text (three_of (drop from text)))
+  pub put : out' ≡ laid (all_of (three_of (drop from text))) out

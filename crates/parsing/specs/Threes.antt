@@ -1,57 +1,141 @@
--- Laws of three lines one behind another: each is read where the one before ended, and laid behind it.
-use Rattle.std.specs.Prelude.{◌≡◌, refl, Bool, true, false, ◌&&◌, List, ◌++◌, ℕ, ◌+◌, ◌-◌, ◌≤◌, ◌<◌, min, eqb, length, take, drop, Float}
-use Rattle.std.proofs.Common.{sym, ap, ◌∙◌, append_assoc, arith, eqb-true, length-append, drop_of_length-le}
-use Rattle.std.proofs.lemmas.Bool.{eqb-false}
+-- Laws of the lines one behind another: each is read where the one before ended, and laid behind it; where one does not end nothing is left for the others.
+use Rattle.std.specs.Prelude.{◌≡◌, refl, Bool, true, false, ◌&&◌, List, [], ◌∷◌, ◌++◌, ℕ, ◌+◌, ◌-◌, ◌≤◌, ◌<◌, min, length, take, drop, Option, Some, None, is_some, IfSome, Float}
+use Rattle.std.proofs.Common.{sym, ap, ◌∙◌, subst, true≢false, append_assoc, append-nil, arith, length-append, drop_of_length-le}
+use Rattle.std.proofs.lemmas.Option.{MatchOption-at_some}
 use borrow.Rule.Slice.PartMut.{put_mid}
 use Rattle.texts.specs.Laying.{laid}
-use Rattle.texts.specs.Laid.{laid_lent}
-use Rattle.parsing.specs.declared.lists.Lists.{Lists}
-use Rattle.parsing.specs.Steps.{Got, got_of, LineRead, emptied, ListsRead}
+use Rattle.texts.specs.Laid.{laid_lent, length-laid}
+use Rattle.texts.specs.Numerals.{either}
+use Rattle.phases.specs.declared.Phase.{Phase}
+use Rattle.phases.specs.declared.Phase.TheVariants.{Fresh}
+use Rattle.phases.specs.Phases.{stepped, closed_at}
+use Rattle.parsing.specs.declared.line.Line.{Line}
+use Rattle.parsing.specs.Steps.{Got, got, ended_by, line_from, got_of, LineEnds, LineRead, emptied, three_of, all_of, ListsRead}
 use Rattle.modes.specs.Fronts.{drop_at}
 
-at_end : (text : List ℕ) (n : ℕ) → n ≤ length text → eqb n (length text) ≡ emptied (drop n text)
-at_end text n h = go (eqb n (length text)) refl
-  where
-    go : (t : Bool) → eqb n (length text) ≡ t → t ≡ emptied (drop n text)
-    go true e = ap emptied (sym (drop_of_length-le text {i = n} (omega (arith, eqb-true n (length text) e))))
-    go false e = ap emptied (sym (drop_at text n 0 (less (eqb-false n (length text) e))))
-      where
-        less : (n ≡ length text → ⊥) → n < length text
-        less f = omega (arith, f, h)
+-- a line that does not end reaches the end of the text
+unended : (z : List Float) (p : Phase) (t : List ℕ) → (line_from z p t).closed ≡ false → (line_from z p t).rest ≡ []
+unfolding line_from
+unended z p [] = λ e. refl
+unended z p (c ∷ t) = either (λ (g : Got). g.closed ≡ false → g.rest ≡ []) (closed_at p) (λ _ f. absurd (true≢false f)) (λ _. unended (z ++ ended_by p c) (stepped p c) t)
+
+-- so no line follows it
+nothing_left : (t : List ℕ) → (got_of t).closed ≡ false → got_of (got_of t).rest ≡ got false [] []
+unfolding line_from
+nothing_left t e = ap got_of (unended [] Fresh t e)
+
+no_line : (got_of []).numbers ≡ []
+unfolding line_from
+no_line = refl
+
+-- the text ends where a line did, or not
+at_end : (text : List ℕ) (n : ℕ) → length text ≤ n → emptied (drop n text) ≡ true
+at_end text n h = ap emptied (drop_of_length-le text {i = n} h)
+
+before_end : (text : List ℕ) (n : ℕ) → n < length text → emptied (drop n text) ≡ false
+before_end text n h = ap emptied (drop_at text n 0 h)
 
 and_same : {a b c d a' b' c' d' : Bool} → a ≡ a' → b ≡ b' → c ≡ c' → d ≡ d' → (a && b && c && d) ≡ (a' && b' && c' && d')
 and_same e f g h = cc
 
-module _ (text : List ℕ) (from : ℕ) (old : List Float) where
-  pub lists_read : {c1 c2 c3 end whole : Bool} {n1 n2 n3 k1 k2 k3 a b : ℕ} {o1 o2 p2 p3 : List Float} {r : Lists} {out : List Float}
-      → LineRead text from old c1 n1 k1 o1 → a ≡ min k1 (length old) → LineRead text n1 (take (length o1 - a) (drop a o1)) c2 n2 k2 p2
-      → o2 ≡ put_mid a (length o1 - a) o1 p2 → b ≡ min (k1 + k2) (length old) → LineRead text n2 (take (length o2 - b) (drop b o2)) c3 n3 k3 p3
-      → out ≡ put_mid b (length o2 - b) o2 p3 → end ≡ eqb n3 (length text) → whole ≡ (c1 && c2 && c3 && end)
-      → r.readable ≡ whole → r.low ≡ k1 → r.high ≡ k2 → r.samples ≡ k3 → ListsRead text from old r out
-  lists_read {n1 = n1} {n2} {k1 = k1} {k2} {a = a} {b} {o1} {o2} x1 ea x2 e2 eb x3 e3 en ew f0 f1 f2 f3 =
-      let low = got_of (drop from text) in
-      let high = got_of low.rest in
-      let samples = got_of high.rest in
-      let g2 : got_of (drop n1 text) ≡ high = ap got_of x1.left in
-      let g3 : got_of (drop n2 text) ≡ samples = ap got_of (x2.left ∙ ap (λ (g : Got). g.rest) g2) in
-      let two : o2 ≡ laid (low.numbers ++ high.numbers) old =
-      e2 ∙ laid_lent low.numbers high.numbers old a x1.put (ea ∙ ap (λ (k : ℕ). min k (length old)) x1.counted)
-      (x2.put ∙ ap (λ (g : Got). laid g.numbers (take (length o1 - a) (drop a o1))) g2) in
-      let d1 = x1.whole in
-      let d2 = x2.whole ∙ ap (λ (g : Got). g.closed) g2 in
-      let d3 = x3.whole ∙ ap (λ (g : Got). g.closed) g3 in
-      let d4 = en ∙ at_end text _ x3.inside ∙ ap emptied (x3.left ∙ ap (λ (g : Got). g.rest) g3) in
-      let alike = and_same d1 d2 d3 d4 in
-      let count2 = x2.counted ∙ ap (λ (g : Got). length g.numbers) g2 in
-      let count : k1 + k2 ≡ length (low.numbers ++ high.numbers) = ap (λ (k : ℕ). k + k2) x1.counted ∙ ap (λ (k : ℕ). length low.numbers + k) count2 ∙ sym (length-append low.numbers high.numbers) in
+module _ (text : List ℕ) (from : ℕ) (old : List Float) {r1 : Option Line} {o1 : List Float} (x1 : LineRead text from old r1 o1) where
+  abbrev low : Got
+  low = got_of (drop from text)
+
+  abbrev high : Got
+  high = got_of low.rest
+
+  abbrev samples : Got
+  samples = got_of high.rest
+
+  -- ---- no first line
+  pub low_open : r1 ≡ None → ListsRead text from old None o1
+  low_open e =
+      let c : false ≡ low.closed = sym (ap is_some e) ∙ x1.whole in
+      let h : high ≡ got false [] [] = nothing_left (drop from text) (sym c) in
+      let none : high.numbers ++ samples.numbers ≡ [] = ap (λ (g : Got). g.numbers ++ (got_of g.rest).numbers) h ∙ no_line in
       record {
-        whole = f0 ∙ ew ∙ alike;
-        lows = f1 ∙ x1.counted;
-        highs = f2 ∙ count2;
-        all = f3 ∙ x3.counted ∙ ap (λ (g : Got). length g.numbers) g3;
-        put = e3
-            ∙ laid_lent (low.numbers ++ high.numbers) samples.numbers old b two (eb ∙ ap (λ (k : ℕ). min k (length old)) count)
-            (x3.put ∙ ap (λ (g : Got). laid g.numbers (take (length o2 - b) (drop b o2))) g3)
-            ∙ ap (λ (l : List Float). laid l old) (append_assoc low.numbers high.numbers samples.numbers);
-        few = omega (arith, f1, f2, f3, x1.fewer, x2.fewer, x3.fewer, x3.inside);
+        whole = and_same {b' = high.closed} {c' = samples.closed} {d' = emptied samples.rest} c refl refl refl;
+        counted = tt;
+        put = x1.put ∙ ap (λ (l : List Float). laid l old) (sym (ap (λ (l : List Float). low.numbers ++ l) none ∙ append-nil low.numbers));
       }
+
+  -- ---- a first line, and a second read behind it
+  module _ {l1 : Line} (e1 : r1 ≡ Some l1) {a : ℕ} (ea : a ≡ min l1.count (length o1)) {r2 : Option Line} {p2 : List Float} (x2 : LineRead text l1.next (take (length o1 - a) (drop a o1)) r2 p2) where
+    abbrev o2 : List Float
+    o2 = put_mid a (length o1 - a) o1 p2
+
+    ends1 : LineEnds text from low l1
+    ends1 = MatchOption-at_some _ (LineEnds text from low) l1 e1 x1.ends
+
+    got2 : got_of (drop l1.next text) ≡ high
+    got2 = ap got_of ends1.left
+
+    closed1 : true ≡ low.closed
+    closed1 = sym (ap is_some e1) ∙ x1.whole
+
+    closed2 : is_some r2 ≡ high.closed
+    closed2 = x2.whole ∙ ap (λ (g : Got). g.closed) got2
+
+    two : o2 ≡ laid (low.numbers ++ high.numbers) old
+    two =
+        laid_lent low.numbers high.numbers old a x1.put (omega (arith, ea, ends1.counted, ap length x1.put, length-laid low.numbers old))
+        (x2.put ∙ ap (λ (g : Got). laid g.numbers (take (length o1 - a) (drop a o1))) got2)
+
+    pub high_open : r2 ≡ None → ListsRead text from old None o2
+    high_open e =
+        let c : false ≡ high.closed = sym (ap is_some e) ∙ closed2 in
+        let none : samples.numbers ≡ [] = ap (λ (g : Got). g.numbers) (nothing_left low.rest (sym c)) in
+        record {
+          whole = and_same {c' = samples.closed} {d' = emptied samples.rest} closed1 c refl refl;
+          counted = tt;
+          put = two ∙ ap (λ (l : List Float). laid (low.numbers ++ l) old) (sym (ap (λ (l : List Float). high.numbers ++ l) none ∙ append-nil high.numbers));
+        }
+
+    -- ---- a second line, and a third read behind it
+    module _ {l2 : Line} (e2 : r2 ≡ Some l2) {b : ℕ} (eb : b ≡ min (l1.count + l2.count) (length o2)) {r3 : Option Line} {p3 : List Float} (x3 : LineRead text l2.next (take (length o2 - b) (drop b o2)) r3 p3) where
+      abbrev o3 : List Float
+      o3 = put_mid b (length o2 - b) o2 p3
+
+      ends2 : LineEnds text l1.next high l2
+      ends2 = MatchOption-at_some _ (LineEnds text l1.next high) l2 e2 (subst (λ (g : Got). IfSome r2 (LineEnds text l1.next g)) got2 x2.ends)
+
+      got3 : got_of (drop l2.next text) ≡ samples
+      got3 = ap got_of ends2.left
+
+      three_laid : o3 ≡ laid (all_of (three_of (drop from text))) old
+      three_laid =
+          laid_lent (low.numbers ++ high.numbers) samples.numbers old b two
+          (omega (arith, eb, ends1.counted, ends2.counted, length-append low.numbers high.numbers, ap length two, length-laid (low.numbers ++ high.numbers) old))
+          (x3.put ∙ ap (λ (g : Got). laid g.numbers (take (length o2 - b) (drop b o2))) got3)
+          ∙ ap (λ (l : List Float). laid l old) (append_assoc low.numbers high.numbers samples.numbers)
+
+      closed3 : is_some r3 ≡ samples.closed
+      closed3 = x3.whole ∙ ap (λ (g : Got). g.closed) got3
+
+      pub samples_open : r3 ≡ None → ListsRead text from old None o3
+      samples_open e = record { whole = and_same {d' = emptied samples.rest} closed1 (sym (ap is_some e2) ∙ closed2) (sym (ap is_some e) ∙ closed3) refl; counted = tt; put = three_laid }
+
+      -- ---- a third line
+      module _ {l3 : Line} (e3 : r3 ≡ Some l3) where
+        ends3 : LineEnds text l2.next samples l3
+        ends3 = MatchOption-at_some _ (LineEnds text l2.next samples) l3 e3 (subst (λ (g : Got). IfSome r3 (LineEnds text l2.next g)) got3 x3.ends)
+
+        -- the text's end decides
+        all_tests : {b : Bool} → emptied (drop l3.next text) ≡ b → b ≡ (three_of (drop from text)).readable
+        all_tests e = and_same closed1 (sym (ap is_some e2) ∙ closed2) (sym (ap is_some e3) ∙ closed3) (sym e ∙ ap emptied ends3.left)
+
+        pub more_behind : l3.next < length text → ListsRead text from old None o3
+        more_behind h = record { whole = all_tests (before_end text l3.next h); counted = tt; put = three_laid }
+
+        pub lists_read : length text ≤ l3.next → ListsRead text from old (Some (record { low = l1.count; high = l2.count; samples = l3.count })) o3
+        lists_read h = record {
+          whole = all_tests (at_end text l3.next h);
+          counted = record {
+            lows = ends1.counted;
+            highs = ends2.counted;
+            all = ends3.counted;
+            few = omega (arith, ends1.fewer, ends2.fewer, ends3.fewer, ends3.inside);
+          };
+          put = three_laid;
+        }

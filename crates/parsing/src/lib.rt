@@ -13,58 +13,53 @@ use crate::lists::read_lists;
 use border::Border;
 use modes::{Mode, read_mode};
 
-#[derive(Drop)]
-pub enum Parsed {
-    Request {
-        border: Border,
-        low: usize,
-        high: usize,
-        samples: usize,
-    },
-    InputSize {
-        need: usize,
-        have: usize,
-    },
+// What a text asks for: a border, and how many numbers each list has.
+#[derive(Clone, Copy)]
+pub struct Request {
+    pub border: Border,
+    pub low: usize,
+    pub high: usize,
+    pub samples: usize,
+}
+
+// Why a text is not parsed.
+#[derive(Clone, Copy, Debug, PartialEq, Eq)]
+pub enum ParseError {
+    InputSize { need: usize, have: usize },
     Unreadable,
 }
 
 // The longest text.
 pub const LONGEST_TEXT: usize = 4096;
 
-// The lists behind the border's line, which ends before `next`.
-fn parse_lists(text: &[u8], border: Border, next: usize, numbers: &mut [f64]) -> Parsed
-    requires { (length text.now ≤ longest_text) × (mode_of text.now ≡ Mode.Found border next) }
+// The lists behind the border's line.
+fn parse_lists(text: &[u8], mode: Mode, numbers: &mut [f64]) -> Result<Request, ParseError>
+    requires { (length text.now ≤ longest_text) × (mode_of text.now ≡ Some mode) }
     ensures { TextParsed text.now numbers.old result numbers.new }
 {
     // A first look writes nowhere, so that a refusal changes nothing.
-    let looked = read_lists(text, next, &mut numbers[..0]);
-    if !looked.readable {
-        return Parsed::Unreadable;
-    }
-    let need = looked.low + looked.high + looked.samples;
+    let lists = read_lists(text, mode.next, &mut numbers[..0]).ok_or(ParseError::Unreadable)?;
+    let need = lists.low + lists.high + lists.samples;
     let have = numbers.len();
     if have < need {
-        return Parsed::InputSize { need, have };
+        return Err(ParseError::InputSize { need, have });
     }
-    read_lists(text, next, numbers);
-    Parsed::Request {
-        border,
-        low: looked.low,
-        high: looked.high,
-        samples: looked.samples,
-    }
+    read_lists(text, mode.next, numbers);
+    Ok(Request {
+        border: mode.border,
+        low: lists.low,
+        high: lists.high,
+        samples: lists.samples,
+    })
 }
 
 // The border and how many numbers each list has; the lists go one behind another to the front of `numbers`.
-pub fn parse(text: &[u8], numbers: &mut [f64]) -> Parsed
+pub fn parse(text: &[u8], numbers: &mut [f64]) -> Result<Request, ParseError>
     ensures { TextParsed text.now numbers.old result numbers.new }
 {
     if LONGEST_TEXT < text.len() {
-        return Parsed::Unreadable;
+        return Err(ParseError::Unreadable);
     }
-    let found = read_mode(text);
-    match found {
-        Mode::Unknown => Parsed::Unreadable,
-        Mode::Found { border, next } => parse_lists(text, border, next, numbers),
-    }
+    let mode = read_mode(text).ok_or(ParseError::Unreadable)?;
+    parse_lists(text, mode, numbers)
 }

@@ -5,10 +5,9 @@ ghost use Rattle.parsing.specs.Steps.{separates, number_by, ended_by, kept_on, L
 
 use phases::{Phase, closed, step, value};
 
-// How the line ended, the place behind it, and how many numbers it has.
-#[derive(Drop)]
+// The place behind a line, and how many numbers it has.
+#[derive(Clone, Copy)]
 pub struct Line {
-    pub closed: bool,
     pub next: usize,
     pub count: usize,
 }
@@ -16,10 +15,7 @@ pub struct Line {
 fn separates(c: u8) -> bool
     ensures { result ≡ separates c }
 {
-    if c == b' ' {
-        return true;
-    }
-    c == b'\n'
+    c == b' ' || c == b'\n'
 }
 
 // A number that has ended goes to its place, if the buffer reaches there; answers how many there are then.
@@ -30,10 +26,9 @@ fn keep_number(negative: bool, size: u32, c: u8, out: &mut [f64], count: usize) 
     if !separates(c) {
         return count;
     }
-    if out.len() <= count {
-        return count + 1;
+    if count < out.len() {
+        out[count] = value(negative, size);
     }
-    out[count] = value(negative, size);
     count + 1
 }
 
@@ -43,39 +38,27 @@ fn keep(phase: Phase, c: u8, out: &mut [f64], count: usize) -> usize
 {
     match phase {
         Phase::Number { negative, size } => keep_number(negative, size, c, out, count),
-        Phase::Fresh => count,
-        Phase::Next => count,
-        Phase::Minus => count,
-        Phase::Closed => count,
-        Phase::Broken => count,
+        Phase::Fresh | Phase::Next | Phase::Minus | Phase::Closed | Phase::Broken => count,
     }
 }
 
-// The line that begins at `from`, its numbers as far as `out` reaches.
-pub fn read_line(text: &[u8], from: usize, out: &mut [f64]) -> Line
+// The line that begins at `from`, if it ends, its numbers as far as `out` reaches.
+pub fn read_line(text: &[u8], from: usize, out: &mut [f64]) -> Option<Line>
     requires { (from ≤ length text.now) × (length text.now ≤ longest_text) }
-    ensures { LineRead text.now from out.old result.closed result.next result.count out.new }
+    ensures { LineRead text.now from out.old result out.new }
 {
     let mut phase = Phase::Fresh;
-    let mut at = from;
     let mut count = 0usize;
-    while at < text.len() {
-        if closed(phase) {
-            return Line {
-                closed: true,
-                next: at,
-                count,
-            };
-        }
+    for at in from..text.len() {
         let c = text[at];
         count = keep(phase, c, out, count);
         phase = step(phase, c);
-        at += 1;
+        if closed(phase) {
+            return Some(Line {
+                next: at + 1,
+                count,
+            });
+        }
     }
-    let whole = closed(phase);
-    Line {
-        closed: whole,
-        next: at,
-        count,
-    }
+    None
 }

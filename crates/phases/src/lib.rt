@@ -24,10 +24,7 @@ fn least(negative: bool) -> u8
 fn first(negative: bool, c: u8) -> Phase
     ensures { result ≡ firstly negative c }
 {
-    if c < least(negative) {
-        return Phase::Broken;
-    }
-    if b'9' < c {
+    if c < least(negative) || b'9' < c {
         return Phase::Broken;
     }
     Phase::Number {
@@ -39,19 +36,19 @@ fn first(negative: bool, c: u8) -> Phase
 fn start(c: u8) -> Phase
     ensures { result ≡ starting c }
 {
-    if c == b'-' {
-        return Phase::Minus;
+    match c {
+        b'-' => Phase::Minus,
+        _ => first(false, c),
     }
-    first(false, c)
 }
 
 fn fresh(c: u8) -> Phase
     ensures { result ≡ freshly c }
 {
-    if c == b'\n' {
-        return Phase::Closed;
+    match c {
+        b'\n' => Phase::Closed,
+        _ => start(c),
     }
-    start(c)
 }
 
 // The largest size of a number.
@@ -61,16 +58,7 @@ const MOST: u32 = 1000000;
 fn grow(negative: bool, size: u32, c: u8) -> Phase
     ensures { result ≡ grown negative size c }
 {
-    if c < b'0' {
-        return Phase::Broken;
-    }
-    if b'9' < c {
-        return Phase::Broken;
-    }
-    if size == 0 {
-        return Phase::Broken;
-    }
-    if 100000 < size {
+    if !c.is_ascii_digit() || size == 0 || MOST < size {
         return Phase::Broken;
     }
     let more = size * 10 + (c as u32 - 48);
@@ -86,13 +74,11 @@ fn grow(negative: bool, size: u32, c: u8) -> Phase
 fn further(negative: bool, size: u32, c: u8) -> Phase
     ensures { result ≡ behind negative size c }
 {
-    if c == b' ' {
-        return Phase::Next;
+    match c {
+        b' ' => Phase::Next,
+        b'\n' => Phase::Closed,
+        _ => grow(negative, size, c),
     }
-    if c == b'\n' {
-        return Phase::Closed;
-    }
-    grow(negative, size, c)
 }
 
 pub fn step(phase: Phase, c: u8) -> Phase
@@ -103,25 +89,14 @@ pub fn step(phase: Phase, c: u8) -> Phase
         Phase::Next => start(c),
         Phase::Minus => first(true, c),
         Phase::Number { negative, size } => further(negative, size, c),
-        Phase::Closed => Phase::Broken,
-        Phase::Broken => Phase::Broken,
+        Phase::Closed | Phase::Broken => Phase::Broken,
     }
 }
 
 pub fn closed(phase: Phase) -> bool
     ensures { result ≡ closed_at phase }
 {
-    match phase {
-        Phase::Closed => true,
-        Phase::Fresh => false,
-        Phase::Next => false,
-        Phase::Minus => false,
-        Phase::Broken => false,
-        Phase::Number {
-            negative: _,
-            size: _,
-        } => false,
-    }
+    matches!(phase, Phase::Closed)
 }
 
 pub fn value(negative: bool, size: u32) -> f64

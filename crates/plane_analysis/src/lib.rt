@@ -12,6 +12,7 @@ use planes::needs::band_need;
 use planes::{Planes, bands_answer, held_answer};
 
 // The tests, on lengths alone.
+#[tactic(auto, using(planes::specs::Tested::held_done), unfolding(crate::specs::Analyses::answer_of))]
 pub fn plane_analysis_answer(
     width: usize,
     height: usize,

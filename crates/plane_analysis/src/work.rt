@@ -27,13 +27,11 @@ fn rows(
     ensures { Rowed binary64 low.now high.now f border plane.now width height m (start + padded_length width f) scratch.old scratch.new }
 {
     let end = start + padded_length(m, f);
-    let mut r = 0usize;
-    while r < height {
+    for r in 0..height {
         let from = r * width;
-        let to = from + width;
-        pad_line(f, border, &plane[from..to], &mut scratch[start..end]);
+        let line = &plane[from..from + width];
+        pad_line(f, border, line, &mut scratch[start..end]);
         bands_within(low, high, f, scratch, start, r * (m + m), m);
-        r += 1;
     }
 }
 
@@ -58,8 +56,7 @@ fn columns(
 {
     let b = dwt_length(height, f);
     let end = start + padded_length(b, f);
-    let mut c = 0usize;
-    while c < m {
+    for c in 0..m {
         pad_line_within(f, border, scratch, base + c * height, height, start);
         let from = c * b;
         let to = from + b;
@@ -71,7 +68,6 @@ fn columns(
             &mut lo[from..to],
             &mut hi[from..to],
         );
-        c += 1;
     }
 }
 

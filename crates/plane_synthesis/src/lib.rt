@@ -14,6 +14,7 @@ use planes::needs::band_need;
 use planes::{Planes, bands_answer, held_answer};
 
 // Whether synthesis gives these sides; they have been tested for size.
+#[tactic(auto, using(bank::specs::Tested::sound_pairs))]
 fn sides_answer(width: usize, height: usize, f: usize) -> Planes
     requires { Sided width height f }
     ensures { result ≡ sides_of width height f }
@@ -36,6 +37,7 @@ fn sides_answer(width: usize, height: usize, f: usize) -> Planes
 }
 
 // The tests, on lengths alone.
+#[tactic(auto, using(planes::specs::Tested::held_done), unfolding(crate::specs::Syntheses::answer_of))]
 pub fn plane_synthesis_answer(
     width: usize,
     height: usize,

@@ -27,8 +27,7 @@ fn joins<'a>(
     ensures { out.new ≡ stored (step_join binary64 f low.now high.now step n lo.now hi.now) count }
 {
     let m = dwt_length(n, f);
-    let mut c = 0usize;
-    while c < count {
+    for c in 0..count {
         let from = c * step;
         let to = from + m;
         let start = c * n;
@@ -41,7 +40,6 @@ fn joins<'a>(
             &hi[from..to],
             &mut out[start..end],
         );
-        c += 1;
     }
 }
 

@@ -24,16 +24,14 @@ pub enum Planes {
 }
 
 // Whether there is a plane to work on.
+#[tactic(auto, unfolding(crate::specs::Answers::asked_of))]
 pub fn asked_answer(width: usize, height: usize, f: usize) -> Planes
     ensures { result ≡ asked_of width height f }
 {
     if bad_taps(f) {
         return Planes::Taps;
     }
-    if width == 0 {
-        return Planes::ZeroedBaseSize;
-    }
-    if height == 0 {
+    if width == 0 || height == 0 {
         return Planes::ZeroedBaseSize;
     }
     if too_large(width, height) {
@@ -43,6 +41,7 @@ pub fn asked_answer(width: usize, height: usize, f: usize) -> Planes
 }
 
 // The same, and then whether the plane has its length and the scratch has room.
+#[tactic(auto, using(crate::specs::Tested::asked_done), unfolding(crate::specs::Answers::held_of))]
 pub fn held_answer(width: usize, height: usize, f: usize, plane: usize, scratch: usize) -> Planes
     ensures { result ≡ held_of width height f plane scratch }
 {
@@ -68,6 +67,7 @@ pub fn held_answer(width: usize, height: usize, f: usize, plane: usize, scratch:
 }
 
 // Whether each band has its length.
+#[tactic(auto, unfolding(crate::specs::Answers::bands_of))]
 pub fn bands_answer(length: usize, ll: usize, lh: usize, hl: usize, hh: usize) -> Planes
     ensures { result ≡ bands_of length ll lh hl hh }
 {

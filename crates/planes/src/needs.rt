@@ -4,7 +4,6 @@ ghost use Rattle.planes.specs.Lengths.{band_length, plane_scratch};
 ghost use Rattle.planes.specs.Works.{Sided};
 
 use bank::lengths::{dwt_length, padded_length};
-use numbers::most;
 
 // How long a band is.
 pub fn band_need(width: usize, height: usize, f: usize) -> usize
@@ -21,5 +20,5 @@ pub fn scratch_need(width: usize, height: usize, f: usize) -> usize
 {
     let m = dwt_length(width, f);
     let b = dwt_length(height, f);
-    4 * (m * height) + most(padded_length(m, f), padded_length(b, f))
+    4 * (m * height) + padded_length(m, f).max(padded_length(b, f))
 }

@@ -1,4 +1,6 @@
 // The lengths that a user of planes has to know to lend buffers.
+#![tactic(auto, using(crate::specs::Tested::asked_done))]
+
 ghost use Rattle.planes.specs.Answers.{WidthSized, HeightSized, BandSized, ScratchSized};
 
 use crate::needs::{band_need, scratch_need};

@@ -7,7 +7,6 @@ ghost use Rattle.printing.specs.Printings.{count_text};
 
 use laying::bytes;
 use laying::digits::{bits, decimal};
-use numbers::least;
 
 // Floats, a line each.
 fn floats(l: &[f64], out: &mut [u8]) -> usize
@@ -15,11 +14,9 @@ fn floats(l: &[f64], out: &mut [u8]) -> usize
     ensures { Lays (floats_text l.now) out.old result out.new }
 {
     let mut n = 0usize;
-    let mut i = 0usize;
-    while i < l.len() {
-        let k = least(n, out.len());
-        n += bits(l[i], &mut out[k..]);
-        i += 1;
+    for x in l {
+        let k = n.min(out.len());
+        n += bits(*x, &mut out[k..]);
     }
     n
 }
@@ -30,7 +27,7 @@ pub fn head(word: &[u8], n: u64, out: &mut [u8]) -> usize
     ensures { Lays (count_text word.now n) out.old result out.new }
 {
     let m = bytes(word, out);
-    let k = least(m, out.len());
+    let k = m.min(out.len());
     m + decimal(n, &mut out[k..])
 }
 
@@ -39,7 +36,7 @@ fn band(word: &[u8], l: &[f64], out: &mut [u8]) -> usize
     ensures { Lays (count_text word.now (length l.now) ++ floats_text l.now) out.old result out.new }
 {
     let n = head(word, l.len() as u64, out);
-    let k = least(n, out.len());
+    let k = n.min(out.len());
     n + floats(l, &mut out[k..])
 }
 
@@ -48,6 +45,6 @@ pub fn bands(approx: &[f64], detail: &[f64], out: &mut [u8]) -> usize
     ensures { Lays (bands_text approx.now detail.now) out.old result out.new }
 {
     let n = band(b"approx ", approx, out);
-    let k = least(n, out.len());
+    let k = n.min(out.len());
     n + band(b"detail ", detail, &mut out[k..])
 }

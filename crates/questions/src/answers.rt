@@ -1,21 +1,17 @@
 // What a call answers, against what its line says.
-use crate::parts::{count, item, part};
+use crate::parts::Line;
 
-// What a word holds before a call.
-pub const BLANK: usize = 81985529216486895;
+// What a word holds before a call: the exports write to words that are lent, and leave one where they carry nothing.
+pub const BLANK: usize = 0x0123_4567_89AB_CDEF;
 
-// A value that the answer carries, or the blank that it left.
-fn value(words: &[u64], at: usize, i: usize) -> usize {
-    if count(words, at) <= i {
-        return BLANK;
-    }
-    item(words, at, i) as usize
-}
+// What a line says where no call is made.
+const NO_CALL: u64 = 1000;
 
 // Whether a number and what it carries are as the line says.
-pub fn told(words: &[u64], number: u64, carried: &[usize; 2]) -> bool {
-    let at = part(words, 1);
-    item(words, at, 0) == number
-        && value(words, at, 1) == carried[0]
-        && value(words, at, 2) == carried[1]
+pub fn told(line: &Line, number: Option<u64>, carried: &[usize; 2]) -> bool {
+    let said = line.part(1);
+    let value = |i: usize| said.get(i).map_or(BLANK, |word| *word as usize);
+    said.first().copied().unwrap_or(0) == number.unwrap_or(NO_CALL)
+        && value(1) == carried[0]
+        && value(2) == carried[1]
 }

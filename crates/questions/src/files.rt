@@ -1,8 +1,8 @@
 // A list in a file, replayed.
 ghost use Rattle.std.specs.Prelude.{◌≡◌, length};
 
-use crate::replay;
 use crate::saying::say;
+use crate::{Replayed, replay};
 use std::fs::File;
 use std::os::fd::AsRawFd;
 
@@ -15,24 +15,25 @@ fn room<const N: usize>() -> [u8; N]
     [0; N]
 }
 
-fn replay_file(rt: &HostRuntime, name: &str) {
-    let Ok(file) = File::open(rt, name) else {
-        io::write_all(1, b"cannot be opened\n");
-        return;
-    };
+fn replay_file(rt: &HostRuntime, name: &str) -> Result<Replayed, &'static [u8]> {
+    let file = File::open(rt, name).map_err(|_| b"cannot be opened\n".as_slice())?;
     let mut list = room::<MOST>();
     let n = io::read_full(file.as_raw_fd(), &mut list);
     // A list that fills the buffer may go on.
     if n == MOST {
-        io::write_all(1, b"is too long\n");
-        return;
+        return Err(b"is too long\n");
     }
-    say(replay(&list[..n]));
+    Ok(replay(&list[..n]))
 }
 
 // What became of the list in a file, behind its name.
 pub fn replay_named(rt: &HostRuntime, name: &str) {
     io::write_all(1, name.as_bytes());
     io::write_all(1, b": ");
-    replay_file(rt, name);
+    match replay_file(rt, name) {
+        Ok(replayed) => say(replayed),
+        Err(why) => {
+            io::write_all(1, why);
+        }
+    }
 }

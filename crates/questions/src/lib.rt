@@ -3,14 +3,9 @@
 
 mod answers;
 mod asking;
-mod asking_f32;
-mod bits;
-mod bits_f32;
 pub mod files;
 mod floats;
-mod floats_f32;
 mod on_banks;
-mod on_banks_f32;
 mod on_direct;
 mod on_divided;
 mod on_lengths;
@@ -18,65 +13,50 @@ mod on_levels;
 mod on_lines;
 mod on_lines_f32;
 mod on_pairs;
-mod on_pairs_f32;
 mod on_planes;
 mod on_sizes;
 mod parts;
 pub mod saying;
 mod text;
+mod widths;
 
-// The number of a call that was not made.
-const NO_CALL: u64 = 1000;
-
+// Why a list was left, and the number of the line where it was.
 #[derive(Drop)]
-pub enum Ending {
-    All,
-    Differs,
-    Unreadable,
+pub enum Stop {
+    Differs(usize),
+    Unreadable(usize),
 }
 
-// How many lines agree, which line was looked at last, and how the list ended there.
+// How many lines agree, and why the list was left before its end, if it was.
 #[derive(Drop)]
 pub struct Replayed {
     pub agree: usize,
-    pub line: usize,
-    pub ending: Ending,
+    pub stop: Option<Stop>,
+}
+
+fn replay_line(number: usize, text: &[u8]) -> Result<(), Stop> {
+    let line = text::read(text).ok_or(Stop::Unreadable(number))?;
+    if !asking::agrees(&line) {
+        return Err(Stop::Differs(number));
+    }
+    Ok(())
 }
 
 // Every line in turn, up to the first that is not as it should be; one that begins with # says something to readers.
 pub fn replay(list: &[u8]) -> Replayed {
-    let mut words = [0u64; 8192];
-    let mut at = 0usize;
-    let mut line = 0usize;
     let mut agree = 0usize;
-    while at < list.len() {
-        line += 1;
-        if list[at] == b'#' {
-            at = text::next_line(list, at);
-        } else {
-            let span = text::line(list, at, &mut words);
-            let count = span.count;
-            if count == 0 {
-                return Replayed {
-                    agree,
-                    line,
-                    ending: Ending::Unreadable,
-                };
-            }
-            if !asking::agrees(&words[..count]) {
-                return Replayed {
-                    agree,
-                    line,
-                    ending: Ending::Differs,
-                };
-            }
-            agree += 1;
-            at = span.next;
+    for (number, text) in (1usize..).zip(list.split_inclusive(|c| *c == b'\n')) {
+        if text.starts_with(b"#") {
+            continue;
         }
+        if let Err(stop) = replay_line(number, text) {
+            return Replayed {
+                agree,
+                stop: Some(stop),
+            };
+        }
+        // No memory holds so many lines.
+        agree = agree.saturating_add(1);
     }
-    Replayed {
-        agree,
-        line,
-        ending: Ending::All,
-    }
+    Replayed { agree, stop: None }
 }

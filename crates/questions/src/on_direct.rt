@@ -1,6 +1,5 @@
 // Calls of the engine that pads no line, and where two pairs of bands part, by their operation.
-use crate::floats::given;
-use crate::parts::scalar;
+use crate::floats::{Call, Lent};
 use isferghul::direct;
 use parting::Parting;
 use parting::finding::parting;
@@ -15,16 +14,16 @@ fn parting_told(answer: Parting, carried: &mut [usize; 2]) -> u64 {
     }
 }
 
-pub fn ask(words: &[u64], all: &[f64], p: &mut [f64], q: &mut [f64], told: &mut [usize; 2]) -> u64 {
-    let border = scalar(words, 1);
-    let a = given(words, 2, all);
-    let b = given(words, 4, all);
-    let c = given(words, 6, all);
-    let d = given(words, 8, all);
-    match scalar(words, 0) {
-        48 => direct::isferghul_analyse_directly(border, a, b, c, p, q, told),
-        49 => direct::isferghul_synthesise_directly(a, b, c, d, p, told),
-        50 => parting_told(parting(a, b, c, d), told),
-        _ => crate::NO_CALL,
-    }
+pub fn ask(call: &Call<'_, f64>, lent: &mut Lent<'_, f64>) -> Option<u64> {
+    let border = call.line.scalar(1);
+    let a = call.list(2);
+    let b = call.list(4);
+    let c = call.list(6);
+    let d = call.list(8);
+    Some(match call.line.scalar(0) {
+        48 => direct::isferghul_analyse_directly(border, a, b, c, lent.p, lent.q, lent.told),
+        49 => direct::isferghul_synthesise_directly(a, b, c, d, lent.p, lent.told),
+        50 => parting_told(parting(a, b, c, d), lent.told),
+        _ => return None,
+    })
 }

@@ -2,11 +2,11 @@
 ghost use Rattle.exact_levels.specs.Backs as Backs;
 ghost use Rattle.telling.specs.Told.{Told};
 
-use crate::bits::float;
-use crate::floats::given;
+use crate::floats::{Call, Lent};
 use crate::on_banks::{handed, made};
 use crate::on_pairs::paired;
-use crate::parts::{item, scalar};
+use crate::parts::Line;
+use crate::widths::Width;
 use bank::Bank;
 use exact_levels::{LevelsBack, levels_back_answer, there_and_back_levels};
 use isferghul::packing;
@@ -25,95 +25,72 @@ fn back_told(answer: LevelsBack, carried: &mut [usize; 2]) -> u64
 }
 
 // The divisor, which every call is told third.
-fn divisor(words: &[u64]) -> f64 {
-    float(item(words, 0, 3))
+fn divisor(line: &Line) -> f64 {
+    f64::float(line.word(3))
 }
 
 // The restored line, and the number that stands beside it.
 fn divided_line(
-    words: &[u64],
+    call: &Call<'_, f64>,
     bank: Bank,
     packed: &[f64],
-    first: &mut [f64],
-    second: &mut [f64],
-    line: &mut [f64],
-    carried: &mut [usize; 2],
-) -> u64 {
-    let n = scalar(words, 1);
-    let levels = scalar(words, 2);
-    let s = divisor(words);
+    lent: &mut Lent<'_, f64>,
+) -> Option<u64> {
+    let [n, levels] = call.line.scalars::<2>();
+    let s = divisor(call.line);
     let answer = divided_answer(
         n,
         bank.taps,
         s,
         levels,
         packed.len(),
-        first.len(),
-        second.len(),
+        lent.p.len(),
+        lent.q.len(),
     );
-    let restored = divided::divided_line(bank, s, packed, n, levels, first, second);
-    if !handed(restored, line) {
-        return crate::NO_CALL;
-    }
-    told::divided(answer, carried)
+    let restored = divided::divided_line(bank, s, packed, n, levels, lent.p, lent.q);
+    handed(restored, lent.r)?;
+    Some(told::divided(answer, lent.told))
 }
 
-fn divided_by_pairs(
-    words: &[u64],
-    taps: &[f64],
-    packed: &[f64],
-    first: &mut [f64],
-    second: &mut [f64],
-    line: &mut [f64],
-    carried: &mut [usize; 2],
-) -> u64 {
-    let bank = paired(
-        taps,
-        scalar(words, 4),
-        scalar(words, 5),
-        scalar(words, 6),
-        scalar(words, 7),
-        0,
-    );
-    divided_line(words, bank, packed, first, second, line, carried)
+fn divided_by_pairs(call: &Call<'_, f64>, lent: &mut Lent<'_, f64>) -> Option<u64> {
+    let [_, _, _, low, high, lowback, highback] = call.line.scalars::<7>();
+    let bank = paired(call.list(2), [low, high, lowback, highback], 0);
+    divided_line(call, bank, call.list(4), lent)
 }
 
-pub fn ask(
-    words: &[u64],
-    all: &[f64],
-    p: &mut [f64],
-    q: &mut [f64],
-    r: &mut [f64],
-    t: &mut [f64],
-    carried: &mut [usize; 2],
-) -> u64 {
-    let first = scalar(words, 1);
-    let second = scalar(words, 2);
-    let s = divisor(words);
-    let fourth = scalar(words, 4);
-    let fifth = scalar(words, 5);
-    let sixth = scalar(words, 6);
-    let seventh = scalar(words, 7);
-    let eighth = scalar(words, 8);
-    let a = given(words, 2, all);
-    let b = given(words, 4, all);
-    let c = given(words, 6, all);
-    match scalar(words, 0) {
-        52 => packing::isferghul_restore_divided(a, b, s, c, first, second, p, q, carried),
+pub fn ask(call: &Call<'_, f64>, lent: &mut Lent<'_, f64>) -> Option<u64> {
+    let [first, second, _, fourth, fifth, sixth, seventh, eighth] = call.line.scalars::<8>();
+    let s = divisor(call.line);
+    let a = call.list(2);
+    let b = call.list(4);
+    let c = call.list(6);
+    Some(match call.line.scalar(0) {
+        52 => packing::isferghul_restore_divided(
+            a, b, s, c, first, second, lent.p, lent.q, lent.told,
+        ),
         53 => told::divided(
             divided_answer(first, second, s, fourth, fifth, sixth, seventh),
-            carried,
+            lent.told,
         ),
-        54 => divided_line(words, made(a, b, 0), c, p, q, r, carried),
-        55 => divided_by_pairs(words, a, b, p, q, r, carried),
+        54 => divided_line(call, made(a, b, 0), c, lent)?,
+        55 => divided_by_pairs(call, lent)?,
         56 => back_told(
             levels_back_answer(first, second, s, fourth, fifth, sixth, seventh, eighth),
-            carried,
+            lent.told,
         ),
         57 => back_told(
-            there_and_back_levels(made(a, b, first), s, c, second, p, q, r, t),
-            carried,
+            there_and_back_levels(
+                made(a, b, first),
+                s,
+                c,
+                second,
+                lent.p,
+                lent.q,
+                lent.r,
+                lent.s,
+            ),
+            lent.told,
         ),
-        _ => crate::NO_CALL,
-    }
+        _ => return None,
+    })
 }

@@ -3,7 +3,7 @@ ghost use Rattle.exact.specs.Backs as Backs;
 ghost use Rattle.level_parts.specs.Parts as Parts;
 ghost use Rattle.telling.specs.Told.{Told};
 
-use crate::parts::{scalar, signed};
+use crate::parts::Line;
 use analysis::analysis_answer;
 use comparing::comparing_answer;
 use convolution::convolution_answer;
@@ -39,21 +39,13 @@ pub fn handing_told(answer: Handing, carried: &mut [usize; 2]) -> u64
     }
 }
 
-pub fn ask(words: &[u64], carried: &mut [usize; 2]) -> u64 {
-    let a = scalar(words, 1);
-    let b = scalar(words, 2);
-    let c = scalar(words, 3);
-    let d = scalar(words, 4);
-    let e = scalar(words, 5);
-    let f = scalar(words, 6);
-    let g = scalar(words, 7);
-    let h = scalar(words, 8);
-    let i = scalar(words, 9);
-    match scalar(words, 0) {
+pub fn ask(line: &Line, carried: &mut [usize; 2]) -> Option<u64> {
+    let [a, b, c, d, e, f, g, h, i] = line.scalars::<9>();
+    Some(match line.scalar(0) {
         26 => line_telling::told::analysis(analysis_answer(a, b, c, d, e), carried),
         27 => line_telling::told::synthesis(synthesis_answer(a, b, c, d), carried),
         28 => line_telling::told::convolution(
-            convolution_answer(border_of(a), b, c, d, split(signed(words, 5)), f),
+            convolution_answer(border_of(a), b, c, d, split(line.signed(5)), f),
             carried,
         ),
         29 => level_telling::told::levels(levels_answer(a, b, c, d, e), carried),
@@ -64,6 +56,6 @@ pub fn ask(words: &[u64], carried: &mut [usize; 2]) -> u64 {
         34 => comparison_told(comparing_answer(a, b, c, d), carried),
         35 => back_told(back_answer(a, b, c, d, e, f), carried),
         51 => line_telling::told::analysis(direct_answer(a, b, c, d), carried),
-        _ => crate::NO_CALL,
-    }
+        _ => return None,
+    })
 }

@@ -1,33 +1,43 @@
-// Calls that lend lists of 32-bit floats, by their operation.
-use crate::floats_f32::given;
-use crate::on_banks_f32::made;
+// Calls on lists of 32-bit floats, by their operation.
+use crate::floats::{Call, Lent};
+use crate::on_banks::made;
 use crate::on_lengths::back_told;
-use crate::on_pairs_f32::back_by_pairs as back_by_pairs_f32;
-use crate::parts::{scalar, signed};
-use exact_f32::there_and_back as there_and_back_f32;
-use isferghul::{lines_f32, taps_f32};
+use crate::on_pairs::four;
+use bank::making::two_pairs;
+use exact::there_and_back;
+use isferghul::{lines, taps};
+use telling::borders::border_of;
 
-pub fn ask(
-    words: &[u64],
-    all: &[f32],
-    p: &mut [f32],
-    q: &mut [f32],
-    r: &mut [f32],
-    s: &mut [f32],
-    told: &mut [usize; 2],
-) -> u64 {
-    let border = scalar(words, 1);
-    let a = given(words, 2, all);
-    let b = given(words, 4, all);
-    let c = given(words, 6, all);
-    let d = given(words, 8, all);
-    match scalar(words, 0) {
-        42 => lines_f32::isferghul_analyse_f32(border, a, b, c, p, q, r, told),
-        43 => lines_f32::isferghul_synthesise_f32(a, b, c, d, p, told),
-        44 => lines_f32::isferghul_convolve_f32(border, a, p, q, d, signed(words, 2), told),
-        45 => taps_f32::isferghul_mirror_f32(a, p),
-        46 => back_told(there_and_back_f32(made(a, b, border), c, p, q, r, s), told),
-        47 => back_by_pairs_f32(words, a, b, p, q, r, s, told),
-        _ => crate::NO_CALL,
-    }
+fn back_by_pairs_f32(call: &Call<'_, f32>, lent: &mut Lent<'_, f32>) -> u64 {
+    let [border, low, high, lowback, highback] = call.line.scalars::<5>();
+    let (low, high, lowback, highback) = four(call.list(2), [low, high, lowback, highback]);
+    let made = two_pairs(low, high, lowback, highback, border_of(border));
+    let line = call.list(4);
+    back_told(
+        there_and_back(made.bank, line, lent.p, lent.q, lent.r, lent.s),
+        lent.told,
+    )
+}
+
+pub fn ask(call: &Call<'_, f32>, lent: &mut Lent<'_, f32>) -> Option<u64> {
+    let border = call.line.scalar(1);
+    let a = call.list(2);
+    let b = call.list(4);
+    let c = call.list(6);
+    let d = call.list(8);
+    Some(match call.line.scalar(0) {
+        42 => { lines::isferghul_analyse(border, a, b, c, lent.p, lent.q, lent.r, lent.told) }
+        43 => lines::isferghul_synthesise(a, b, c, d, lent.p, lent.told),
+        44 => {
+            let centre = call.line.signed(2);
+            lines::isferghul_convolve(border, a, lent.p, lent.q, d, centre, lent.told)
+        }
+        45 => taps::isferghul_mirror(a, lent.p),
+        46 => back_told(
+            there_and_back(made(a, b, border), c, lent.p, lent.q, lent.r, lent.s),
+            lent.told,
+        ),
+        47 => back_by_pairs_f32(call, lent),
+        _ => return None,
+    })
 }

@@ -1,134 +1,69 @@
 // Entries by a bank of two pairs: one list has the four of taps one after another, and their lengths are told.
-use crate::floats::given;
+use crate::floats::{Call, Lent};
 use crate::on_banks::restored_line;
 use crate::on_lengths::back_told;
-use crate::parts::scalar;
 use bank::Bank;
 use bank::making::two_pairs;
 use exact::there_and_back;
-use numbers::least;
 use plane_synthesis::synthesise_plane;
 use plane_telling::plane_told;
 use telling::borders::border_of;
 
 // The first so many of a list, and what is behind them; all of it, and nothing, where it has no more.
-fn first(list: &[f64], count: usize) -> &[f64] {
-    &list[..least(count, list.len())]
+fn split<F>(list: &[F], count: usize) -> (&[F], &[F]) {
+    list.split_at(list.len().min(count))
 }
 
-fn behind(list: &[f64], count: usize) -> &[f64] {
-    &list[least(count, list.len())..]
+// Four lists of these lengths.
+pub fn four<F>(taps: &[F], lengths: [usize; 4]) -> (&[F], &[F], &[F], &[F]) {
+    let (low, taps) = split(taps, lengths[0]);
+    let (high, taps) = split(taps, lengths[1]);
+    let (lowback, taps) = split(taps, lengths[2]);
+    let (highback, _) = split(taps, lengths[3]);
+    (low, high, lowback, highback)
 }
 
-// The bank of four lists of these lengths.
-pub fn paired(
-    taps: &[f64],
-    low: usize,
-    high: usize,
-    lowback: usize,
-    highback: usize,
-    border: usize,
-) -> Bank {
-    let highs = behind(taps, low);
-    let lowbacks = behind(highs, high);
-    let highbacks = behind(lowbacks, lowback);
-    let made = two_pairs(
-        first(taps, low),
-        first(highs, high),
-        first(lowbacks, lowback),
-        first(highbacks, highback),
-        border_of(border),
-    );
+// The bank of four lists of these lengths; the way back reads no border.
+pub fn paired(taps: &[f64], lengths: [usize; 4], border: usize) -> Bank {
+    let (low, high, lowback, highback) = four(taps, lengths);
+    let made = two_pairs(low, high, lowback, highback, border_of(border));
     made.bank
 }
 
-// The same, told behind two other numbers; the way back reads no border.
-fn joining(words: &[u64], taps: &[f64]) -> Bank {
-    paired(
-        taps,
-        scalar(words, 3),
-        scalar(words, 4),
-        scalar(words, 5),
-        scalar(words, 6),
-        0,
-    )
-}
-
-pub fn back_by_pairs(
-    words: &[u64],
-    taps: &[f64],
-    line: &[f64],
-    approx: &mut [f64],
-    detail: &mut [f64],
-    scratch: &mut [f64],
-    out: &mut [f64],
-    carried: &mut [usize; 2],
-) -> u64 {
-    let bank = paired(
-        taps,
-        scalar(words, 2),
-        scalar(words, 3),
-        scalar(words, 4),
-        scalar(words, 5),
-        scalar(words, 1),
-    );
+fn back_by_pairs(call: &Call<'_, f64>, lent: &mut Lent<'_, f64>) -> u64 {
+    let [border, low, high, lowback, highback] = call.line.scalars::<5>();
+    let bank = paired(call.list(2), [low, high, lowback, highback], border);
+    let line = call.list(4);
     back_told(
-        there_and_back(bank, line, approx, detail, scratch, out),
-        carried,
+        there_and_back(bank, line, lent.p, lent.q, lent.r, lent.s),
+        lent.told,
     )
 }
 
-fn restored_by_pairs(
-    words: &[u64],
-    taps: &[f64],
-    packed: &[f64],
-    first: &mut [f64],
-    second: &mut [f64],
-    line: &mut [f64],
-    carried: &mut [usize; 2],
-) -> u64 {
-    let bank = joining(words, taps);
-    restored_line(words, bank, packed, first, second, line, carried)
+fn restored_by_pairs(call: &Call<'_, f64>, lent: &mut Lent<'_, f64>) -> Option<u64> {
+    let [_, _, low, high, lowback, highback] = call.line.scalars::<6>();
+    let bank = paired(call.list(2), [low, high, lowback, highback], 0);
+    restored_line(call, bank, call.list(4), lent)
 }
 
-fn plane_by_pairs(
-    words: &[u64],
-    taps: &[f64],
-    ll: &[f64],
-    lh: &[f64],
-    hl: &[f64],
-    hh: &[f64],
-    plane: &mut [f64],
-    scratch: &mut [f64],
-    carried: &mut [usize; 2],
-) -> u64 {
-    let bank = joining(words, taps);
-    let w = scalar(words, 1);
-    let h = scalar(words, 2);
+fn plane_by_pairs(call: &Call<'_, f64>, lent: &mut Lent<'_, f64>) -> u64 {
+    let [width, height, low, high, lowback, highback] = call.line.scalars::<6>();
+    let bank = paired(call.list(2), [low, high, lowback, highback], 0);
+    let ll = call.list(4);
+    let lh = call.list(6);
+    let hl = call.list(8);
+    let hh = call.list(10);
     plane_told(
-        synthesise_plane(bank, ll, lh, hl, hh, w, h, plane, scratch),
-        carried,
+        synthesise_plane(bank, ll, lh, hl, hh, width, height, lent.p, lent.q),
+        lent.told,
     )
 }
 
-pub fn ask(
-    words: &[u64],
-    all: &[f64],
-    p: &mut [f64],
-    q: &mut [f64],
-    r: &mut [f64],
-    s: &mut [f64],
-    carried: &mut [usize; 2],
-) -> u64 {
-    let a = given(words, 2, all);
-    let b = given(words, 4, all);
-    let c = given(words, 6, all);
-    let d = given(words, 8, all);
-    let e = given(words, 10, all);
-    match scalar(words, 0) {
-        39 => back_by_pairs(words, a, b, p, q, r, s, carried),
-        40 => restored_by_pairs(words, a, b, p, q, r, carried),
-        41 => plane_by_pairs(words, a, b, c, d, e, p, q, carried),
-        _ => crate::NO_CALL,
-    }
+pub fn ask(call: &Call<'_, f64>, lent: &mut Lent<'_, f64>) -> Option<u64> {
+    Some(match call.line.scalar(0) {
+        39 => back_by_pairs(call, lent),
+        40 => restored_by_pairs(call, lent)?,
+        41 => plane_by_pairs(call, lent),
+        _ => return None,
+    })
 }

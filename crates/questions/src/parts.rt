@@ -1,76 +1,109 @@
 // The words of a line by parts. A part is its count and that many words; the next one follows.
 ghost use Rattle.std.specs.Prelude.{◌≤◌};
 
-use numbers::least;
+use std::ops::Range;
 
-// A word of the line; 0 past its end.
-fn word(words: &[u64], at: usize) -> u64 {
-    if words.len() <= at {
-        return 0;
-    }
-    words[at]
-}
+// A line that fills the room cannot be read, so a zero follows the words of every other.
+pub const ROOM: usize = 8192;
 
-// How many words a part has; none has more than 1024.
-pub fn count(words: &[u64], at: usize) -> usize
-    ensures { result ≤ 1024 }
-{
-    least(word(words, at) as usize, 1024)
-}
+// The most words of a part.
+const LONGEST: usize = 1024;
 
-// Where the next part begins; no line has more than 8192 words.
-pub fn behind(words: &[u64], at: usize) -> usize {
-    least(at, 8192) + 1 + count(words, at)
-}
-
-// Where the k-th part begins: the call's is the first, its answer's the next, then each list's before the call and after it.
-pub fn part(words: &[u64], k: usize) -> usize {
-    let mut at = 0usize;
-    let mut i = 0usize;
-    while i < k {
-        at = behind(words, at);
-        i += 1;
-    }
-    at
-}
-
-// From which place to which.
 #[derive(Drop)]
-pub struct Range {
-    pub from: usize,
-    pub to: usize,
+pub struct Line {
+    words: [u64; ROOM],
+    count: usize,
 }
 
-// Where the words of the k-th part stand, within the first n.
-pub fn places(words: &[u64], k: usize, n: usize) -> Range
-    ensures { (result.from ≤ result.to) × (result.to ≤ n) }
-{
-    let at = part(words, k);
-    let from = least(least(at, 8192) + 1, n);
-    Range {
-        from,
-        to: from + least(count(words, at), n - from),
+impl Line {
+    pub fn new() -> Line {
+        Line {
+            words: [0; ROOM],
+            count: 0,
+        }
     }
-}
 
-// A word of a part; 0 past its end.
-pub fn item(words: &[u64], at: usize, i: usize) -> u64 {
-    if count(words, at) <= i {
-        return 0;
+    // A word more, so many times.
+    pub fn push(&mut self, word: u64, times: usize) -> Option<()> {
+        let end = self.count.checked_add(times)?;
+        if ROOM <= end {
+            return None;
+        }
+        self.words.get_mut(self.count..end)?.fill(word);
+        self.count = end;
+        Some(())
     }
-    word(words, least(at, 8192) + 1 + i)
-}
 
-// What the call is told besides lists, counted from 1; 0 is the operation.
-pub fn scalar(words: &[u64], i: usize) -> usize {
-    item(words, 0, i) as usize
-}
-
-// The same, from two's complement.
-pub fn signed(words: &[u64], i: usize) -> i64 {
-    let w = item(words, 0, i);
-    if w < 9223372036854775808 {
-        return w as i64;
+    // The place of the count of a part, whose words follow.
+    pub fn begin(&mut self) -> Option<usize> {
+        let part = self.count;
+        self.push(0, 1)?;
+        Some(part)
     }
-    -1 - (18446744073709551615 - w) as i64
+
+    // All words behind the count of a part are its own.
+    pub fn end(&mut self, part: usize) -> Option<()> {
+        let count = self.count.checked_sub(part)?.checked_sub(1)?;
+        if LONGEST < count {
+            return None;
+        }
+        *self.words.get_mut(part)? = count as u64;
+        Some(())
+    }
+
+    pub fn words(&self) -> &[u64; ROOM] {
+        &self.words
+    }
+
+    // The places of the words whose count stands at a place.
+    fn counted(&self, at: usize) -> Range<usize>
+        ensures { (result.start ≤ result.end) × (result.end ≤ ROOM) }
+    {
+        match self.words.get(at) {
+            Some(count) => {
+                let start = at + 1;
+                start..start + (ROOM - start).min(*count as usize)
+            }
+            None => ROOM..ROOM,
+        }
+    }
+
+    // The places of the k-th part's words: the call's part is the first, its answer's the next, then each list's before the call and after it.
+    pub fn places(&self, k: usize) -> Range<usize>
+        ensures { (result.start ≤ result.end) × (result.end ≤ ROOM) }
+    {
+        let mut places = self.counted(0);
+        for _ in 0..k {
+            places = self.counted(places.end);
+        }
+        places
+    }
+
+    // The k-th part's words; none behind the last part.
+    pub fn part(&self, k: usize) -> &[u64] {
+        let places = self.places(k);
+        &self.words[places.start..places.end]
+    }
+
+    // What the call is told besides lists, counted from 1; 0 is the operation. It is 0 where the line tells no more.
+    pub fn word(&self, i: usize) -> u64 {
+        self.part(0).get(i).copied().unwrap_or(0)
+    }
+
+    pub fn scalar(&self, i: usize) -> usize {
+        self.word(i) as usize
+    }
+
+    pub fn scalars<const N: usize>(&self) -> [usize; N] {
+        let mut told = [0; N];
+        for (x, word) in told.iter_mut().zip(self.part(0).iter().skip(1)) {
+            *x = *word as usize;
+        }
+        told
+    }
+
+    // The same, from two's complement.
+    pub fn signed(&self, i: usize) -> i64 {
+        self.word(i).cast_signed()
+    }
 }

@@ -1,5 +1,5 @@
 // What became of a list, in a line of text.
-use crate::{Ending, Replayed};
+use crate::{Replayed, Stop};
 
 fn at_line(line: usize, what: &[u8]) {
     io::write_all(1, b", then line ");
@@ -10,11 +10,10 @@ fn at_line(line: usize, what: &[u8]) {
 pub fn say(replayed: Replayed) {
     io::print_decimal(1, replayed.agree as u64);
     io::write_all(1, b" agree");
-    let ending = replayed.ending;
-    match ending {
-        Ending::All => {}
-        Ending::Differs => at_line(replayed.line, b" differs"),
-        Ending::Unreadable => at_line(replayed.line, b" cannot be read"),
+    match replayed.stop {
+        None => {}
+        Some(Stop::Differs(line)) => at_line(line, b" differs"),
+        Some(Stop::Unreadable(line)) => at_line(line, b" cannot be read"),
     }
     io::write_all(1, b"\n");
 }

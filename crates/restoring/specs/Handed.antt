@@ -3,7 +3,6 @@ use Rattle.std.specs.Prelude.{◌≡◌, Bool, cond, List, [], eqb, length, take
 use Rattle.std.proofs.Math.Path.{refl, ap}
 use Rattle.std.proofs.Common.{sym, ◌∙◌, arith}
 use Prim.Native.Nat.{ℕ, zero, suc, ◌-◌, ◌%◌, ◌<◌}
-use Rattle.std.proofs.Math.Dec.{lit<}
 use Rattle.std.specs.Float.{Format}
 use Rattle.std.specs.Float.Ieee.{binary64}
 use Rattle.std.specs.Borrow.{MutBor}
@@ -11,13 +10,11 @@ use Rattle.numbers.specs.Words.{when_done}
 use Rattle.numbers.specs.Tests.{kept}
 use Rattle.bank.specs.Lengths.{line_length}
 use Rattle.synthesis.specs.Runs.{length_join}
-use Rattle.packed.specs.declared.Levels.TheVariants as answers
 use Rattle.packed.specs.Lengths.{levels_of, line_after, restoring_length}
 use Rattle.packed.specs.Answers.{part_at}
 use Rattle.packed.specs.Tested.{first_line}
 use Rattle.packed.specs.Follow.{length_part, whole_length}
 use Rattle.restoring.specs.Lines.{joined_by, first_by, second_by}
-use Rattle.restoring.specs.Dividings as Dividings
 use Rattle.restoring.specs.Joins.{whole_front}
 use Rattle.restoring.specs.Works.{Restoring, Fronted}
 

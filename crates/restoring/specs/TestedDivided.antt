@@ -1,9 +1,9 @@
 -- Laws of the tests with a divisor: an answer is done where the divisor and restoring pass, and every other answer is a refusal.
-use Rattle.std.specs.Prelude.{◌≡◌, Bool, cond, [], Float}
+use Rattle.std.specs.Prelude.{◌≡◌, Bool, cond, Float}
 use Rattle.std.proofs.Math.Path.{refl, ap, subst}
 use Rattle.std.proofs.Common.{sym, ◌∙◌, arith}
 use Rattle.std.proofs.Math.Bool.{true, false}
-use Prim.Native.Nat.{ℕ, zero, suc, ◌-◌, ◌%◌, ◌<◌}
+use Prim.Native.Nat.{ℕ, zero, suc, ◌<◌}
 use Rattle.std.proofs.Math.Dec.{lit<}
 use Rattle.std.specs.Float.Ieee.{binary64}
 use Rattle.numbers.specs.Words.{when_done}

@@ -17,6 +17,7 @@ pub enum Divided {
 }
 
 // The tests: taps, then s, then the lengths.
+#[tactic(auto, unfolding(crate::specs::Dividings::answer_of))]
 pub fn divided_answer(
     n: usize,
     f: usize,

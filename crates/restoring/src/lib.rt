@@ -9,11 +9,11 @@ ghost use Rattle.std.specs.Prelude.{◌≡◌};
 ghost use Rattle.restoring.specs.Restorings.{answer_of, Restored, HandedOut};
 
 use bank::Bank;
-use numbers::most;
 use packed::depth::restoring_need;
 use packed::{Levels, packed_answer};
 
 // The tests, on lengths alone.
+#[tactic(auto, unfolding(crate::specs::Restorings::answer_of))]
 pub fn restoring_answer(
     n: usize,
     f: usize,
@@ -76,7 +76,7 @@ pub fn restored_line<'a>(
         return &mut first[..0];
     };
     let length = restoring_need(n, f);
-    if most(levels, 1) % 2 == 0 {
+    if levels.max(1) % 2 == 0 {
         &mut second[..length]
     } else {
         &mut first[..length]

@@ -8,7 +8,6 @@ use crate::divided::{Divided, divided_answer};
 use crate::restoring_answer;
 use crate::work::{restore, restore_by};
 use dividing::Finish;
-use numbers::most;
 use packed::Levels;
 
 // The line comes to stand at the front of the first buffer if the levels are odd in number, of the second if even.
@@ -30,7 +29,7 @@ pub fn restore_levels<'a>(
     let Levels::Done = answer else {
         return answer;
     };
-    restore(low, high, f, packed, n, most(levels, 1), first, second);
+    restore(low, high, f, packed, n, levels.max(1), first, second);
     Levels::Done
 }
 
@@ -55,6 +54,6 @@ pub fn restore_divided<'a>(
         return answer;
     };
     let by = Finish::DividedBy(s);
-    restore_by(low, high, f, by, packed, n, most(levels, 1), first, second);
+    restore_by(low, high, f, by, packed, n, levels.max(1), first, second);
     Divided::Done
 }

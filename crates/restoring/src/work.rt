@@ -9,7 +9,6 @@ ghost use Rattle.restoring.specs.Works.{line_held, turn_first_by, turn_second_by
 
 use bank::lengths::idwt_length;
 use dividing::{Finish, finish_line};
-use numbers::most;
 use packed::depth::{part_of, restoring_need};
 use synthesis::work::join_cleared;
 
@@ -76,8 +75,7 @@ pub fn restore_by<'a>(
     let last = part_of(n, f, levels, 0);
     let start = last.start;
     let end = start + last.count;
-    let mut j = 0usize;
-    while j < levels {
+    for j in 0..levels {
         let part = part_of(n, f, levels, levels - j);
         let from = part.start;
         let to = from + part.count;
@@ -92,7 +90,6 @@ pub fn restore_by<'a>(
             first,
             second,
         );
-        j += 1;
     }
 }
 
@@ -126,7 +123,7 @@ pub fn front<'a>(
     ensures { Front n f levels first.entry second.entry result }
 {
     let length = restoring_need(n, f);
-    if most(levels, 1) % 2 == 0 {
+    if levels.max(1) % 2 == 0 {
         &mut second[..length]
     } else {
         &mut first[..length]

@@ -4,40 +4,41 @@
 pub mod eights;
 
 ghost use Rattle.std.specs.Prelude.{◌≡◌, length};
-ghost use Rattle.std.specs.Float.{binary64};
 ghost use Rattle.std.specs.Float.Ieee.{add, mul};
 ghost use Rattle.summing.specs.Sums.{tap_sum, Placeable};
 
+use numbers::real::Real;
+
 // Both sums of a place travel through the taps as one pair.
 #[derive(Drop)]
-pub struct Pair {
-    pub approx: f64,
-    pub detail: f64,
+pub struct Pair<R> {
+    pub approx: R,
+    pub detail: R,
 }
 
 // One tap: each product is rounded, then each sum.
-pub fn tap(sums: Pair, low: f64, high: f64, x: f64) -> Pair
-    ensures { (result.approx ≡ add binary64 sums.approx (mul binary64 low x)) × (result.detail ≡ add binary64 sums.detail (mul binary64 high x)) }
+pub fn tap<R: Real>(sums: Pair<R>, low: R, high: R, x: R) -> Pair<R>
+    ensures { (R.float result.approx ≡ add R.format (R.float sums.approx) (mul R.format (R.float low) (R.float x)))
+        × (R.float result.detail ≡ add R.format (R.float sums.detail) (mul R.format (R.float high) (R.float x))) }
 {
     Pair {
-        approx: sums.approx + low * x,
-        detail: sums.detail + high * x,
+        approx: sums.approx.add_product(low, x),
+        detail: sums.detail.add_product(high, x),
     }
 }
 
 // Both sums over the padded samples from `from` on.
-pub fn place(low: &[f64], high: &[f64], f: usize, padded: &[f64], from: usize) -> Pair
+pub fn place<R: Real>(low: &[R], high: &[R], f: usize, padded: &[R], from: usize) -> Pair<R>
     requires { Placeable f (length low.now) (length high.now) (length padded.now) from }
-    ensures { (result.approx ≡ tap_sum binary64 low.now padded.now from f) × (result.detail ≡ tap_sum binary64 high.now padded.now from f) }
+    ensures { (R.float result.approx ≡ tap_sum R.format (R.floats low.now) (R.floats padded.now) from f)
+        × (R.float result.detail ≡ tap_sum R.format (R.floats high.now) (R.floats padded.now) from f) }
 {
     let mut sums = Pair {
-        approx: 0.0,
-        detail: 0.0,
+        approx: R::zero(),
+        detail: R::zero(),
     };
-    let mut j = 0usize;
-    while j < f {
+    for j in 0..f {
         sums = tap(sums, low[j], high[j], padded[from + j]);
-        j += 1;
     }
     sums
 }

@@ -24,6 +24,10 @@ use Rattle.synthesis.specs.Gathers.{gathered_all}
 pub still_taking : {f l h a d o o' : ℕ} → Taking f l h a d o → o' ≡ o → Taking f l h a d o'
 still_taking {f} {l} {h} {a} {d} t e = subst (λ (k : ℕ). Taking f l h a d k) (sym e) t
 
+-- the same with the lists as they are seen, which are as long
+pub joinable_by : {f a d o a' d' o' : ℕ} → Joinable f a d o → a' ≡ a → d' ≡ d → o' ≡ o → Joinable f a' d' o'
+joinable_by j p q r = record { two = j.two; most = j.most; even = j.even; few = omega (arith, j.few); both = omega (arith, j.both); ruled = omega (arith, j.ruled) }
+
 pub length-synthesised : (g : Format) (F : ℕ) (low high a d out : List Float) → length (synthesised g F low high a d out) ≡ length out
 unfolding synthesised
 length-synthesised g F low high a d out = length-tab _ (length out)

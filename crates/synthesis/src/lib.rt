@@ -5,13 +5,13 @@ pub mod lists;
 pub mod work;
 
 ghost use Rattle.std.specs.Prelude.{◌≡◌};
-ghost use Rattle.std.specs.Float.{binary64};
 ghost use Rattle.synthesis.specs.Syntheses.{answer_of, Synthesised};
 
 use bank::Bank;
 use bank::lengths::idwt_length;
 use bank::sizes::bad_taps;
 use numbers::LONGEST;
+use numbers::real::Real;
 
 #[derive(Drop)]
 pub enum Synthesis {
@@ -50,8 +50,8 @@ pub fn synthesis_answer(f: usize, approx: usize, detail: usize, out: usize) -> S
 }
 
 // Both bands joined onto what the output held.
-pub fn synthesise(bank: Bank, approx: &[f64], detail: &[f64], out: &mut [f64]) -> Synthesis
-    ensures { Synthesised binary64 bank.lowback bank.highback bank.taps approx.now detail.now out.old result out.new }
+pub fn synthesise<R: Real>(bank: Bank<R>, approx: &[R], detail: &[R], out: &mut [R]) -> Synthesis
+    ensures { Synthesised R.format (R.floats bank.lowback) (R.floats bank.highback) bank.taps (R.floats approx.now) (R.floats detail.now) (R.floats out.old) result (R.floats out.new) }
 {
     let f = bank.taps;
     // lent in place, the whole bank would be copied

@@ -1,23 +1,23 @@
 // Synthesis by tap lists, for an entry that has a bank and for one that has the caller's own lists.
 ghost use Rattle.std.specs.Prelude.{length};
-ghost use Rattle.std.specs.Float.{binary64};
 ghost use Rattle.bank.specs.Lengths.{Counted};
 ghost use Rattle.synthesis.specs.Syntheses.{Synthesised};
 
 use crate::work::join;
 use crate::{Synthesis, synthesis_answer};
+use numbers::real::Real;
 
 // Both bands joined onto what the output held.
-pub fn synthesise<'a>(
-    low: &'a [f64],
-    high: &'a [f64],
+pub fn synthesise<'a, R: Real>(
+    low: &'a [R],
+    high: &'a [R],
     f: usize,
-    approx: &[f64],
-    detail: &[f64],
-    out: &mut [f64],
+    approx: &[R],
+    detail: &[R],
+    out: &mut [R],
 ) -> Synthesis
     requires { Counted f (length low.now) (length high.now) }
-    ensures { Synthesised binary64 low.now high.now f approx.now detail.now out.old result out.new }
+    ensures { Synthesised R.format (R.floats low.now) (R.floats high.now) f (R.floats approx.now) (R.floats detail.now) (R.floats out.old) result (R.floats out.new) }
 {
     let answer = synthesis_answer(f, approx.len(), detail.len(), out.len());
     let Synthesis::Done = answer else {

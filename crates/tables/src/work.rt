@@ -10,11 +10,9 @@ fn gather(s: &mut [f64], n: usize, from: usize, to: usize, count: usize)
     ensures { s.new ≡ placed (λ k. at s.old (from + k * n)) to count s.old }
 {
     let mut at = from;
-    let mut k = 0usize;
-    while k < count {
+    for k in 0..count {
         s[to + k] = s[at];
         at += n;
-        k += 1;
     }
 }
 
@@ -25,11 +23,9 @@ fn strip(s: &mut [f64], lines: usize, n: usize, r: usize, count: usize, left: us
 {
     let first = r * n;
     let mut to = lines * n + (left * lines + r);
-    let mut c = left;
-    while c < right {
+    for c in left..right {
         gather(s, n, first + c, to, count);
         to += lines;
-        c += 1;
     }
 }
 
@@ -39,6 +35,7 @@ fn tile(s: &mut [f64], lines: usize, n: usize, left: usize, right: usize)
     ensures { CrossedTo lines n 0 lines left right s.old s.new }
 {
     let mut r = 0usize;
+    // r goes by eights, and the lines that are left begin where it stops
     while 8 <= lines - r {
         strip(s, lines, n, r, 8, left, right);
         r += 8;
@@ -52,6 +49,7 @@ pub fn cross(s: &mut [f64], lines: usize, n: usize)
     ensures { s.new ≡ crossed lines n s.old }
 {
     let mut c = 0usize;
+    // c goes by sixty-fours, and the places that are left begin where it stops
     while 64 <= n - c {
         tile(s, lines, n, c, c + 64);
         c += 64;

@@ -10,11 +10,9 @@ pub fn no_border(number: usize) -> bool
     BORDERS.len() <= number
 }
 
+// no `TryFrom`: neither it nor `Border` is of this crate
 pub fn border_of(number: usize) -> Border
     ensures { result ≡ border_of number }
 {
-    if number < BORDERS.len() {
-        return BORDERS[number];
-    }
-    Border::Clamp
+    BORDERS.get(number).copied().unwrap_or(Border::Clamp)
 }

@@ -20,7 +20,7 @@ use Rattle.exact.specs.declared.Back.{Back}
 use Rattle.exact.specs.Backs as Backs
 
 -- what an entry promises of this bank it promises of the one pair l and h, f taps of each, under b
-pub record GivesAsBefore (bank : Bank) (l h : List Float) (f : ℕ) (b : Border) : Type 0 where
+pub record GivesAsBefore (bank : Bank Float) (l h : List Float) (f : ℕ) (b : Border) : Type 0 where
   pub analyse : {line approx detail scratch : List Float} {r : Analysis} {approx' detail' scratch' : List Float}
       → Analyses.Analysed binary64 bank.low bank.high bank.taps bank.border line approx detail scratch r approx' detail' scratch'
       → Analyses.Analysed binary64 l h f b line approx detail scratch r approx' detail' scratch'
@@ -47,6 +47,6 @@ pub record GivesAsBefore (bank : Bank) (l h : List Float) (f : ℕ) (b : Border)
       → Backs.Returned binary64 l h l h f b line approx detail scratch out r approx' detail' scratch' out'
 
 -- that pair of a bank made of low taps and of high ones, told by their places; k is the answer's number, and beside a refusal there was no tap
-abbrev pub AsBefore : Bank → ℕ → List Float → (ℕ → Float) → Border → Type 0
+abbrev pub AsBefore : Bank Float → ℕ → List Float → (ℕ → Float) → Border → Type 0
 AsBefore bank k low high b =
     GivesAsBefore bank (when_done k (array_of (length low) (at low)) zeros) (when_done k (array_of (length low) high) zeros) (when_done k (length low) 0) b

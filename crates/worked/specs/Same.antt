@@ -20,12 +20,12 @@ one_pair l h f b = record {
   there_and_back = λ p. p;
 }
 
-made_before : {bank : Bank} (k : ℕ) (low : List Float) (high : ℕ → Float) (b : Border) → bank ≡ when_done k (bank_of low high b) (no_bank b) → AsBefore bank k low high b
-made_before zero low high b e = subst (λ (x : Bank). AsBefore x 0 low high b) (sym e) (one_pair (array_of (length low) (at low)) (array_of (length low) high) (length low) b)
-made_before (suc k) low high b e = subst (λ (x : Bank). AsBefore x (suc k) low high b) (sym e) (one_pair zeros zeros 0 b)
+made_before : {bank : Bank Float} (k : ℕ) (low : List Float) (high : ℕ → Float) (b : Border) → bank ≡ when_done k (bank_of low high b) (no_bank b) → AsBefore bank k low high b
+made_before zero low high b e = subst (λ (x : Bank Float). AsBefore x 0 low high b) (sym e) (one_pair (array_of (length low) (at low)) (array_of (length low) high) (length low) b)
+made_before (suc k) low high b e = subst (λ (x : Bank Float). AsBefore x (suc k) low high b) (sym e) (one_pair zeros zeros 0 b)
 
-pub bank_as_before : {low high : List Float} {b : Border} {r : Making} {bank : Bank} → BankMade low high b r bank → AsBefore bank (number_of r) low (at high) b
+pub bank_as_before : {low high : List Float} {b : Border} {r : Making} {bank : Bank Float} → BankMade low high b r bank → AsBefore bank (number_of r) low (at high) b
 bank_as_before {low} {high} {b} {r} m = made_before (number_of r) low (at high) b m.made
 
-pub mirrored_as_before : {low : List Float} {b : Border} {r : Making} {bank : Bank} → MirrorMade low b r bank → AsBefore bank (number_of r) low (mirror low) b
+pub mirrored_as_before : {low : List Float} {b : Border} {r : Making} {bank : Bank Float} → MirrorMade low b r bank → AsBefore bank (number_of r) low (mirror low) b
 mirrored_as_before {low} {b} {r} m = made_before (number_of r) low (mirror low) b m.made

@@ -4,7 +4,7 @@ use borrow.Author.Rules.{rules}
 use Rattle.analysis.proofs.analyse.Goals as goal
 
 pub analyse-requires : goal.analyse-requires
-analyse-requires c = counted_all (search rules) (search rules)
+analyse-requires g c = counted_all (search rules) (search rules)
 
 pub returns : goal.returns
-returns c = c.analyse.ensures
+returns g c = c.analyse.ensures

@@ -1,35 +1,34 @@
 -- `gathering::add_pairs` meets its contract: each turn adds both products of one pair to one sum.
-use borrow.Author.Rules.{rules}
 use Prim.Native.Nat.{◌+◌}
-use mathlib.Core.List.{List}
 use mathlib.Core.Path.{◌∙◌, ◌≡◌, ap}
 use native.Mathlib.Omega.{arith}
-use lib.ListN.{length-set}
-use lib.Ieee.{Float, binary64, nan}
-use Rattle.numbers.specs.Words.{at, tab}
+use lib.ListN.{length}
+use lib.Ieee.{nan}
+use Rattle.numbers.specs.Words.{tab}
 use Rattle.numbers.specs.Places.{get_or-written_behind}
 use Rattle.numbers.specs.Write.{written_full, written_start, written_step}
-use Rattle.gathering.specs.Pairs.{onto}
 use Rattle.gathering.specs.Works.{onto_at}
 use Rattle.gathering.proofs.add_pairs.Goals as goal
 
 pub loop-q-init : goal.loop-q-init
-loop-q-init c = (search rules, search rules, search rules, written_start _ _)
+loop-q-init g c = written_start _ _
 
 pub loop-q-preserved : goal.loop-q-preserved
-loop-q-preserved c = let a = c.args in
-    let x = a.sums.now in
+loop-q-preserved g c = let a = c.args in let r = g.R.Real in let m = g.met.R.Real in
     let q = c.loop-q.q in
-    let g = onto_at binary64 a.low.now a.high.now a.approx.now a.detail.now a.j a.i x in
-    let same : at c.loop-q.sums q ≡ at x q = ap (λ (y : List Float). at y q) c.loop-q.invariant.3 ∙ get_or-written_behind g q x q nan (omega arith) in (
-      search rules,
-      c.loop-q.invariant.1,
-      simp length-set c.loop-q.invariant.2,
-      written_step g q x (search rules) c.loop-q.invariant.3
-          (ap (onto binary64 (at a.low.now) (at a.high.now) a.j (at a.approx.now (a.i + q)) (at a.detail.now (a.i + q))) same),
-    )
+    let x = r.floats a.sums.now in
+    let f = onto_at r.format (r.floats a.low.now) (r.floats a.high.now) (r.floats a.approx.now) (r.floats a.detail.now) a.j a.i x in
+    let low = m.floats_at a.low.now a.j c.index-low-j.result (omega arith) in
+    let high = m.floats_at a.high.now a.j c.index-high-j.result (omega arith) in
+    let approx = m.floats_at a.approx.now (a.i + q) c.index-approx-i.result (omega arith) in
+    let detail = m.floats_at a.detail.now (a.i + q) c.index-detail-i.result (omega arith) in
+    let sum = m.floats_at c.loop-q.sums q c.index-sums-q.result (omega arith) in
+    let was = get_or-written_behind f q x q nan (omega arith) in
+    simp m.floats_set (written_step f q x (omega (arith, m.floats_length a.sums.now)) c.loop-q.invariant (cc))
 
 pub returns : goal.returns
-returns c = let a = c.args in
-    let g = onto_at binary64 a.low.now a.high.now a.approx.now a.detail.now a.j a.i a.sums.now in
-    written_full g c.loop-q.q a.sums.now c.loop-q.invariant.3 (search rules) (search rules) ∙ ap (tab g) c.loop-q.invariant.1
+returns g c = let a = c.args in let r = g.R.Real in
+    let x = r.floats a.sums.now in
+    let f = onto_at r.format (r.floats a.low.now) (r.floats a.high.now) (r.floats a.approx.now) (r.floats a.detail.now) a.j a.i x in
+    let long : length x ≡ 16 = g.met.R.Real.floats_length a.sums.now ∙ c.requires.1 in
+    written_full f c.loop-q.q x c.loop-q.invariant (omega arith) (omega arith) ∙ ap (tab f) long

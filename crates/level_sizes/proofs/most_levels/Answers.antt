@@ -1,13 +1,10 @@
 -- `level_sizes::most_levels` meets its contract: gone down as far as may be, the levels are the most.
-use Rattle.level_sizes.specs.declared.LevelSize.TheVariants.{Length, Refused}
-use Rattle.packed.specs.Tested.{stopped, went_on, asked_done, as_far}
+use Rattle.level_sizes.specs.declared.LevelSize.TheVariants.{Length}
+use Rattle.packed.specs.Tested.{went_on, asked_done, as_far}
 use Rattle.packed.specs.Works.{Split}
 use mathlib.Core.Path.{◌∙◌, sym, ap}
 use Rattle.level_sizes.proofs.most_levels.Goals as goal
 use Rattle.level_sizes.proofs.most_levels.Goals.{In-Done}
-
-pub returns-in_default : goal.returns-in_default
-returns-in_default c = let r = c.asked_answer-answer.result in record { answer = stopped r _ Refused c.asked_answer-answer.ensures c.in_default.not-Done }
 
 all : (c : In-Done) → let a = c.args in Split a.n a.f 1
 all c = asked_done c.args.n c.args.f 1 (sym c.asked_answer-answer.ensures ∙ c.in-Done.is)

@@ -1,9 +1,10 @@
--- `modes::front` meets its contract: the test is the definition's.
-use mathlib.Core.Path.{◌∙◌, sym}
+-- `modes::front` meets its contract: the library's test is the definition's.
+use mathlib.Core.Bool.{Bool}
+use mathlib.Core.Path.{◌∙◌, ap}
+use Rattle.std.specs.Bool.{then_some}
+use Rattle.std.proofs.Common.{length}
+use Rattle.modes.specs.Fronts.{begins_with}
 use Rattle.modes.proofs.front.Goals as goal
 
-pub returns-then-begins : goal.returns-then-begins
-returns-then-begins c = simp (sym c.begins.ensures ∙ c.if-begins.true)
-
 pub returns : goal.returns
-returns c = simp (sym c.begins.ensures ∙ c.if-begins.false)
+returns c = c.then_some.ensures ∙ ap (λ (b : Bool). then_some b (length c.args.name.now)) (c.starts_with.ensures.value ∙ begins_with c.args.name.now c.args.text.now)

@@ -3,21 +3,12 @@ use lib.ListN.{length}
 use lib.Seq.{length-take-le}
 use mathlib.Core.Path.{◌∙◌, refl, sym}
 use native.Mathlib.Omega.{arith}
-use Rattle.bank.specs.Tested.{counted_all}
 use Rattle.packed.specs.Tested.{first_line}
 use Rattle.packed.specs.Lengths.{levels_of}
-use Rattle.restoring.specs.Tested.{restoring, none_handed, first_handed, second_handed}
+use Rattle.restoring.specs.Tested.{restoring, first_handed, second_handed}
 use Rattle.restoring.specs.Works.{Restoring}
-use borrow.Author.Rules.{rules}
 use Rattle.restoring.proofs.restored_line.Goals as goal
 use Rattle.restoring.proofs.restored_line.Goals.{In-Done}
-
-pub restore_levels-answer-requires : goal.restore_levels-answer-requires
-restore_levels-answer-requires c = counted_all (search rules) (search rules)
-
-pub returns-in_default : goal.returns-in_default
-returns-in_default c = let r = c.restore_levels-answer.result in
-    none_handed r c.restore_levels-answer.ensures.answer c.in_default.not-Done refl refl
 
 -- every test passed
 all : (c : In-Done) → let a = c.args in
@@ -30,20 +21,20 @@ pub restoring_need-length-requires : goal.restoring_need-length-requires
 restoring_need-length-requires c = let a = c.args in
     first_line {levels = a.levels} (record { sound = (all (goal.at.restoring_need-length-requires c).In-Done).packs.sound; long = (all (goal.at.restoring_need-length-requires c).In-Done).packs.long })
 
-pub slice_bounds-result-end-then-most-eq0 : goal.slice_bounds-result-end-then-most-eq0
-slice_bounds-result-end-then-most-eq0 c = let w = all (goal.at.slice_bounds-result-end-then-most-eq0 c).In-Done in
+pub slice_bounds-result-end-then-max-eq0 : goal.slice_bounds-result-end-then-max-eq0
+slice_bounds-result-end-then-max-eq0 c = let w = all (goal.at.slice_bounds-result-end-then-max-eq0 c).In-Done in
     sym (length-take-le _ _ (omega (arith, c.restoring_need-length.ensures, w.room, w.space, c.restore_levels-answer.auto.first, c.restore_levels-answer.auto.second)))
 
-pub slice_bounds-result-end-else-most-eq0 : goal.slice_bounds-result-end-else-most-eq0
-slice_bounds-result-end-else-most-eq0 c = let w = all (goal.at.slice_bounds-result-end-else-most-eq0 c).In-Done in
+pub slice_bounds-result-end-else-max-eq0 : goal.slice_bounds-result-end-else-max-eq0
+slice_bounds-result-end-else-max-eq0 c = let w = all (goal.at.slice_bounds-result-end-else-max-eq0 c).In-Done in
     sym (length-take-le _ _ (omega (arith, c.restoring_need-length.ensures, w.room, w.space, c.restore_levels-answer.auto.first, c.restore_levels-answer.auto.second)))
 
-pub returns-then-most-eq0 : goal.returns-then-most-eq0
-returns-then-most-eq0 c = let a = c.args in
-    second_handed a.bank.lowback a.bank.highback a.bank.taps a.packed.now a.n a.levels a.first a.second _ _ _ c.restore_levels-answer.result c.most.result _
-    c.restore_levels-answer.ensures c.in-Done.is c.most.ensures c.restoring_need-length.ensures (omega (arith, c.if-most-eq0.true)) refl refl
+pub returns-then-max-eq0 : goal.returns-then-max-eq0
+returns-then-max-eq0 c = let a = c.args in
+    second_handed a.bank.lowback a.bank.highback a.bank.taps a.packed.now a.n a.levels a.first a.second _ _ _ c.restore_levels-answer.result c.max.result _
+    c.restore_levels-answer.ensures c.in-Done.is c.max.ensures c.restoring_need-length.ensures (omega (arith, c.if-max-eq0.true)) refl refl
 
-pub returns-else-most-eq0 : goal.returns-else-most-eq0
-returns-else-most-eq0 c = let a = c.args in
-    first_handed a.bank.lowback a.bank.highback a.bank.taps a.packed.now a.n a.levels a.first a.second _ _ _ c.restore_levels-answer.result c.most.result _
-    c.restore_levels-answer.ensures c.in-Done.is c.most.ensures c.restoring_need-length.ensures (λ e. absurd (omega (arith, e, c.if-most-eq0.false))) refl refl
+pub returns-else-max-eq0 : goal.returns-else-max-eq0
+returns-else-max-eq0 c = let a = c.args in
+    first_handed a.bank.lowback a.bank.highback a.bank.taps a.packed.now a.n a.levels a.first a.second _ _ _ c.restore_levels-answer.result c.max.result _
+    c.restore_levels-answer.ensures c.in-Done.is c.max.ensures c.restoring_need-length.ensures (λ e. absurd (omega (arith, e, c.if-max-eq0.false))) refl refl

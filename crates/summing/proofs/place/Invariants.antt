@@ -1,12 +1,8 @@
--- What each turn of `place` keeps, and what falls with each.
-use Prim.Native.Nat.{◌-◌, ◌≤◌}
-use lib.Ieee.{binary64}
+-- What each turn of `place` keeps.
 use mathlib.Core.Path.{◌≡◌}
 use Rattle.summing.specs.Sums.{tap_sum}
 use Rattle.summing.proofs.place.Given as goal
 
 abbrev pub invariant-loop-j : goal.invariant-loop-j
-invariant-loop-j l = (l.j ≤ l.f) × (l.sums.approx ≡ tap_sum binary64 l.low l.padded l.from l.j) × (l.sums.detail ≡ tap_sum binary64 l.high l.padded l.from l.j)
-
-abbrev pub decreases-loop-j : goal.decreases-loop-j
-decreases-loop-j l = l.f - l.j
+invariant-loop-j g l = let r = g.R.Real in
+    (r.float l.sums.approx ≡ tap_sum r.format (r.floats l.low) (r.floats l.padded) l.from l.j) × (r.float l.sums.detail ≡ tap_sum r.format (r.floats l.high) (r.floats l.padded) l.from l.j)

@@ -4,7 +4,7 @@ use borrow.Author.Rules.{rules}
 use Rattle.synthesis.proofs.synthesise.Goals as goal
 
 pub synthesise-requires : goal.synthesise-requires
-synthesise-requires c = counted_all (search rules) (search rules)
+synthesise-requires g c = counted_all (search rules) (search rules)
 
 pub returns : goal.returns
-returns c = c.synthesise.ensures
+returns g c = c.synthesise.ensures

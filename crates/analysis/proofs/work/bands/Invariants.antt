@@ -1,15 +1,10 @@
--- What each turn of `work::bands` keeps, and what falls with each.
-use Prim.Native.Nat.{◌-◌, ◌≤◌}
+-- What each turn of `work::bands` keeps.
 use Rattle.numbers.specs.Words.{written}
-use lib.Ieee.{binary64}
-use lib.ListN.{length}
 use mathlib.Core.Path.{◌≡◌}
 use Rattle.analysis.specs.Works.{band_of}
 use Rattle.analysis.proofs.work.bands.Given as goal
 
 abbrev pub invariant-loop-i : goal.invariant-loop-i
-invariant-loop-i l = (l.i ≤ length l.initial.approx) × (length l.approx ≡ length l.initial.approx) × (length l.detail ≡ length l.initial.detail)
-    × (l.approx ≡ written (band_of binary64 l.low l.f l.padded) l.i l.initial.approx) × (l.detail ≡ written (band_of binary64 l.high l.f l.padded) l.i l.initial.detail)
-
-abbrev pub decreases-loop-i : goal.decreases-loop-i
-decreases-loop-i l = length l.initial.approx - l.i
+invariant-loop-i g l = let r = g.R.Real in
+    (r.floats l.approx ≡ written (band_of r.format (r.floats l.low) l.f (r.floats l.padded)) l.i (r.floats l.initial.approx))
+    × (r.floats l.detail ≡ written (band_of r.format (r.floats l.high) l.f (r.floats l.padded)) l.i (r.floats l.initial.detail))

@@ -1,35 +1,22 @@
 -- `analysis::work::bands_beside` meets its contract: it goes on from the eights, and each turn writes one place of either half, which is the pair of sums there.
-use borrow.Author.Rules.{rules}
 use native.Mathlib.Omega.{arith}
 use mathlib.Core.Path.{refl, ◌∙◌}
-use lib.ListN.{length-set}
-use lib.Ieee.{binary64}
 use Rattle.analysis.specs.Works.{band_of}
 use Rattle.analysis.specs.Halves.{halves_again, beside_step, beside_all}
 use Rattle.analysis.proofs.work.bands_beside.Goals as goal
 
 pub loop-i-init : goal.loop-i-init
-loop-i-init c = let a = c.args in (
-  search rules,
-  c.eights_beside-i.ensures.1.long ∙ c.requires.filled,
-  search rules,
-  halves_again (band_of binary64 a.high.now a.f a.padded.now) (band_of binary64 a.low.now a.f a.padded.now) 0 a.m c.eights_beside-i.result c.eights_beside-i.ensures.1
-      (λ j l. refl) (λ j l. refl),
-)
-
-pub bounds-both-m : goal.bounds-both-m
-bounds-both-m c = omega (arith, length-set c.loop-i.both c.loop-i.i c.place-p.result.detail, c.loop-i.invariant.1, c.loop-i.invariant.2, c.loop-i-test.true)
+loop-i-init g c = let a = c.args in let r = g.R.Real in
+    halves_again (band_of r.format (r.floats a.high.now) a.f (r.floats a.padded.now)) (band_of r.format (r.floats a.low.now) a.f (r.floats a.padded.now)) 0 a.m c.eights_beside-done.result c.eights_beside-done.ensures.1
+    (λ j l. refl) (λ j l. refl)
 
 pub loop-i-preserved : goal.loop-i-preserved
-loop-i-preserved c = let a = c.args in (
-  search rules,
-  c.loop-i.invariant.1,
-  simp length-set c.loop-i.invariant.2,
-  beside_step (band_of binary64 a.high.now a.f a.padded.now) (band_of binary64 a.low.now a.f a.padded.now) a.m c.loop-i.i _ c.loop-i.both _ _
-      c.loop-i-test.true c.loop-i.invariant.1 c.loop-i.invariant.3 c.place-p.ensures.1 c.place-p.ensures.0,
-)
+loop-i-preserved g c = let a = c.args in let r = g.R.Real in let m = g.met.R.Real in
+    simp (m.floats_set)
+    (beside_step (band_of r.format (r.floats a.high.now) a.f (r.floats a.padded.now)) (band_of r.format (r.floats a.low.now) a.f (r.floats a.padded.now)) a.m c.loop-i.i _ (r.floats c.loop-i.both) _ _
+    c.loop-i-test.true (m.floats_length c.eights_beside-done.new.both ∙ c.eights_beside-done.auto.both ∙ c.requires.filled) c.loop-i.invariant c.place-p.ensures.1 c.place-p.ensures.0)
 
 pub returns : goal.returns
-returns c = let a = c.args in
-    beside_all (band_of binary64 a.high.now a.f a.padded.now) (band_of binary64 a.low.now a.f a.padded.now) a.m c.loop-i.i _ c.loop-i.both
-    c.loop-i.invariant.1 c.loop-i.invariant.0 c.loop-i-test.false c.loop-i.invariant.3
+returns g c = let a = c.args in let r = g.R.Real in let m = g.met.R.Real in
+    beside_all (band_of r.format (r.floats a.high.now) a.f (r.floats a.padded.now)) (band_of r.format (r.floats a.low.now) a.f (r.floats a.padded.now)) a.m c.loop-i.i _ (r.floats c.loop-i.both)
+    (m.floats_length c.eights_beside-done.new.both ∙ c.eights_beside-done.auto.both ∙ c.requires.filled) (omega (arith, c.loop-i.auto, c.eights_beside-done.ensures.0)) c.loop-i-test.false c.loop-i.invariant

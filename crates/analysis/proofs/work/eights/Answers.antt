@@ -1,28 +1,23 @@
 -- `analysis::work::eights` meets its contract: each turn puts eight places of both bands.
-use borrow.Author.Rules.{rules}
-use mathlib.Core.Path.{◌∙◌}
-use lib.Ieee.{binary64}
 use native.Mathlib.Omega.{arith}
-use Rattle.numbers.specs.Words.{at}
 use Rattle.numbers.specs.Write.{written_start}
-use Rattle.numbers.specs.Runs.{written_run}
-use Rattle.analysis.specs.Turns.{sums_at_lem}
-use Rattle.analysis.specs.Works.{band_of}
+use Rattle.summing.proofs.Fits.{bands_fit}
+use Rattle.analysis.specs.Turns.{turn_run}
 use Rattle.analysis.proofs.work.eights.Goals as goal
 
-pub loop-i-init : goal.loop-i-init
-loop-i-init c = (search rules, search rules, search rules, written_start _ _, written_start _ _)
+pub loop-k-init : goal.loop-k-init
+loop-k-init g c = (written_start _ _, written_start _ _)
 
-pub loop-i-preserved : goal.loop-i-preserved
-loop-i-preserved c = let a = c.args in let low = a.low.now in let high = a.high.now in let line = a.padded.now in let sums = c.eight-sums.result in (
-  omega (arith, c.loop-i-test.true),
-  c.put.auto.out ∙ c.loop-i.invariant.1,
-  c.put-in-loop-i.auto.out ∙ c.loop-i.invariant.2,
-  written_run (band_of binary64 low a.f line) c.loop-i.i 8 a.approx.now (at sums.approx) (omega (arith, c.loop-i-test.true)) c.loop-i.invariant.3
-      (sums_at_lem binary64 low line a.f c.loop-i.i 8 c.eight-sums.ensures.0) c.put.ensures,
-  written_run (band_of binary64 high a.f line) c.loop-i.i 8 a.detail.now (at sums.detail) (omega (arith, c.loop-i-test.true, c.requires.both)) c.loop-i.invariant.4
-      (sums_at_lem binary64 high line a.f c.loop-i.i 8 c.eight-sums.ensures.1) c.put-in-loop-i.ensures,
-)
+pub eight-sums-requires : goal.eight-sums-requires
+eight-sums-requires g c = let m = g.met.R.Real in
+    (bands_fit _ _ m.aligned m.small, record { lows = c.requires.lows; highs = c.requires.highs; within = omega (arith, c.requires.within, c.loop-k-test.true) })
 
-pub returns : goal.returns
-returns c = (c.loop-i.invariant.0, c.loop-i.invariant.3, c.loop-i.invariant.4)
+pub loop-k-preserved : goal.loop-k-preserved
+loop-k-preserved g c = let a = c.args in
+    let r = g.R.Real in
+    let long = g.met.R.Real.floats_length in (
+      turn_run r.format (r.floats a.low.now) (r.floats a.padded.now) a.f c.loop-k.k (r.floats a.approx.now)
+          (omega (arith, c.loop-k-test.true, long a.approx.now)) c.loop-k.invariant.0 c.eight-sums.ensures.0 c.put.ensures,
+      turn_run r.format (r.floats a.high.now) (r.floats a.padded.now) a.f c.loop-k.k (r.floats a.detail.now)
+          (omega (arith, c.loop-k-test.true, long a.detail.now, c.requires.both)) c.loop-k.invariant.1 c.eight-sums.ensures.1 c.put-in-loop-k.ensures,
+    )

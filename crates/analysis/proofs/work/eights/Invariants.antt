@@ -1,15 +1,11 @@
--- What each turn of `work::eights` keeps, and what falls with each.
-use Prim.Native.Nat.{◌-◌, ◌≤◌}
+-- What each turn of `work::eights` keeps.
+use Prim.Native.Nat.{◌*◌}
 use mathlib.Core.Path.{◌≡◌}
-use lib.ListN.{length}
-use lib.Ieee.{binary64}
 use Rattle.numbers.specs.Words.{written}
 use Rattle.analysis.specs.Works.{band_of}
 use Rattle.analysis.proofs.work.eights.Given as goal
 
-abbrev pub invariant-loop-i : goal.invariant-loop-i
-invariant-loop-i l = (l.i ≤ length l.initial.approx) × (length l.approx ≡ length l.initial.approx) × (length l.detail ≡ length l.initial.detail)
-    × (l.approx ≡ written (band_of binary64 l.low l.f l.padded) l.i l.initial.approx) × (l.detail ≡ written (band_of binary64 l.high l.f l.padded) l.i l.initial.detail)
-
-abbrev pub decreases-loop-i : goal.decreases-loop-i
-decreases-loop-i l = length l.initial.approx - l.i
+abbrev pub invariant-loop-k : goal.invariant-loop-k
+invariant-loop-k g l = let r = g.R.Real in
+    (r.floats l.approx ≡ written (band_of r.format (r.floats l.low) l.f (r.floats l.padded)) (8 * l.k) (r.floats l.initial.approx))
+    × (r.floats l.detail ≡ written (band_of r.format (r.floats l.high) l.f (r.floats l.padded)) (8 * l.k) (r.floats l.initial.detail))

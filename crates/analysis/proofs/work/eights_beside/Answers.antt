@@ -1,26 +1,29 @@
 -- `analysis::work::eights_beside` meets its contract: each turn puts eight places of either half.
-use borrow.Author.Rules.{rules}
+use Prim.Native.Nat.{◌*◌}
 use mathlib.Core.Path.{◌∙◌}
-use lib.Ieee.{binary64}
 use native.Mathlib.Omega.{arith}
-use Rattle.numbers.specs.Words.{at}
+use Rattle.summing.proofs.Fits.{bands_fit}
 use Rattle.analysis.specs.Turns.{sums_at_lem}
 use Rattle.analysis.specs.Works.{band_of}
-use Rattle.analysis.specs.Halves.{halves_start, beside_run}
+use Rattle.analysis.specs.Halves.{halves_start, beside_turn}
 use Rattle.analysis.proofs.work.eights_beside.Goals as goal
 
-pub loop-i-init : goal.loop-i-init
-loop-i-init c = (search rules, search rules, halves_start _ _ 0 _ _)
+pub loop-k-init : goal.loop-k-init
+loop-k-init g c = halves_start _ _ 0 _ _
 
-pub loop-i-preserved : goal.loop-i-preserved
-loop-i-preserved c = let a = c.args in let low = a.low.now in let high = a.high.now in let line = a.padded.now in let sums = c.eight-sums.result in (
-  omega (arith, c.loop-i-test.true),
-  c.put-in-loop-i.auto.out ∙ c.put.auto.out ∙ c.loop-i.invariant.1,
-  beside_run (band_of binary64 high a.f line) (band_of binary64 low a.f line) (at sums.detail) (at sums.approx) a.m c.loop-i.i 8 a.both.now c.loop-i.both
-      (omega (arith, c.loop-i-test.true)) c.requires.filled c.loop-i.invariant.2
-      (sums_at_lem binary64 high line a.f c.loop-i.i 8 c.eight-sums.ensures.1) (sums_at_lem binary64 low line a.f c.loop-i.i 8 c.eight-sums.ensures.0)
-      c.put.ensures c.put-in-loop-i.ensures,
-)
+pub eight-sums-requires : goal.eight-sums-requires
+eight-sums-requires g c = let m = g.met.R.Real in
+    (bands_fit _ _ m.aligned m.small, record { lows = c.requires.lows; highs = c.requires.highs; within = omega (arith, c.requires.within, c.loop-k-test.true) })
 
-pub returns : goal.returns
-returns c = (c.loop-i.invariant.0, c.loop-i.invariant.2)
+pub loop-k-preserved : goal.loop-k-preserved
+loop-k-preserved g c = let a = c.args in
+    let r = g.R.Real in
+    let long = g.met.R.Real.floats_length in
+    let low = r.floats a.low.now in
+    let high = r.floats a.high.now in
+    let line = r.floats a.padded.now in
+    let sums = c.eight-sums.result in
+    beside_turn (band_of r.format high a.f line) (band_of r.format low a.f line) a.m c.loop-k.k (r.floats a.both.now) (r.floats c.loop-k.both) (r.floats sums.detail) (r.floats sums.approx)
+    (omega (arith, c.loop-k-test.true)) (long a.both.now ∙ c.requires.filled) c.loop-k.invariant
+    (sums_at_lem r.format high line a.f (8 * c.loop-k.k) 8 c.eight-sums.ensures.1) (sums_at_lem r.format low line a.f (8 * c.loop-k.k) 8 c.eight-sums.ensures.0)
+    c.put.ensures c.put-in-loop-k.ensures

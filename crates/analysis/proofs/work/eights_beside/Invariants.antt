@@ -1,13 +1,8 @@
--- What each turn of `work::eights_beside` keeps, and what falls with each.
-use Prim.Native.Nat.{◌-◌, ◌≤◌}
-use mathlib.Core.Path.{◌≡◌}
-use lib.ListN.{length}
-use lib.Ieee.{binary64}
+-- What each turn of `work::eights_beside` keeps.
+use Prim.Native.Nat.{◌*◌}
 use Rattle.analysis.specs.Works.{band_of, Halves}
 use Rattle.analysis.proofs.work.eights_beside.Given as goal
 
-abbrev pub invariant-loop-i : goal.invariant-loop-i
-invariant-loop-i l = (l.i ≤ l.m) × (length l.both ≡ length l.initial.both) × Halves (band_of binary64 l.high l.f l.padded) (band_of binary64 l.low l.f l.padded) 0 l.m l.i l.initial.both l.both
-
-abbrev pub decreases-loop-i : goal.decreases-loop-i
-decreases-loop-i l = l.m - l.i
+abbrev pub invariant-loop-k : goal.invariant-loop-k
+invariant-loop-k g l = let r = g.R.Real in
+    Halves (band_of r.format (r.floats l.high) l.f (r.floats l.padded)) (band_of r.format (r.floats l.low) l.f (r.floats l.padded)) 0 l.m (8 * l.k) (r.floats l.initial.both) (r.floats l.both)

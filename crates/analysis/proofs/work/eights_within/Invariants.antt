@@ -1,11 +1,8 @@
--- What each turn of `work::eights_within` keeps, and what falls with each.
-use Prim.Native.Nat.{◌-◌, ◌≤◌}
-use lib.Ieee.{binary64}
+-- What each turn of `work::eights_within` keeps.
+use Prim.Native.Nat.{◌*◌}
 use Rattle.analysis.specs.Works.{band_of, Halves, line_at}
 use Rattle.analysis.proofs.work.eights_within.Given as goal
 
-abbrev pub invariant-loop-i : goal.invariant-loop-i
-invariant-loop-i l = (l.i ≤ l.m) × Halves (band_of binary64 l.low l.f (line_at l.f l.from l.m l.initial.s)) (band_of binary64 l.high l.f (line_at l.f l.from l.m l.initial.s)) l.to l.m l.i l.initial.s l.s
-
-abbrev pub decreases-loop-i : goal.decreases-loop-i
-decreases-loop-i l = l.m - l.i
+abbrev pub invariant-loop-k : goal.invariant-loop-k
+invariant-loop-k g l = let r = g.R.Real in let line = line_at l.f l.from l.m (r.floats l.initial.s) in
+    Halves (band_of r.format (r.floats l.low) l.f line) (band_of r.format (r.floats l.high) l.f line) l.to l.m (8 * l.k) (r.floats l.initial.s) (r.floats l.s)

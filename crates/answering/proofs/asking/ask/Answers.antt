@@ -1,15 +1,12 @@
 -- `answering::asking::ask` meets its contract: what parsing answered tells what the text stands for, and there is always room for its numbers.
-use Rattle.answering.specs.Answering.{never, refused_14, sized, answered}
+use Rattle.std.proofs.lemmas.Result.{err_from_is_err_and}
+use Rattle.answering.specs.Answering.{not_parsed, answered}
 use Rattle.answering.proofs.asking.ask.Goals as goal
 
-pub ask_request-requires : goal.ask_request-requires
-ask_request-requires c = sized _ _ _ _ c.parse-parsed.ensures c.requires c.in-Request.is
+pub returns-in_err-request : goal.returns-in_err-request
+returns-in_err-request c =
+    let p = err_from_is_err_and c.from_residual.result c.from_residual.ensures.1 in
+    rw (p.1, p.2) (not_parsed _ _ _ _ c.parse.ensures c.requires c.in_err-request.was)
 
-pub returns-in-Request : goal.returns-in-Request
-returns-in-Request c = let e = c.ask_request.ensures in answered _ _ _ _ c.parse-parsed.ensures c.requires c.in-Request.is e.0 e.1 e.2
-
-pub returns-in-InputSize : goal.returns-in-InputSize
-returns-in-InputSize c = absurd (never _ _ _ _ c.parse-parsed.ensures c.requires c.in-InputSize.is)
-
-pub returns-in-Unreadable : goal.returns-in-Unreadable
-returns-in-Unreadable c = refused_14 _ _ _ _ c.parse-parsed.ensures c.requires c.in-Unreadable.is c.unasked-in-Unreadable.ensures
+pub returns : goal.returns
+returns c = let e = c.ask_request.ensures in answered _ _ _ _ c.parse.ensures c.requires c.in_ok-request.was e.0 e.1

@@ -1,12 +1,7 @@
--- What each turn of `pad::repeat` keeps, and what falls with each.
+-- What each turn of `pad::repeat` keeps.
 use mathlib.Core.Path.{◌≡◌}
-use Prim.Native.Nat.{◌-◌, ◌≤◌}
-use lib.ListN.{length}
 use Rattle.numbers.specs.Words.{placed}
 use Rattle.border.proofs.pad.repeat.Given as goal
 
 abbrev pub invariant-loop-i : goal.invariant-loop-i
-invariant-loop-i l = (l.i ≤ l.count) × (length l.s ≡ length l.initial.s) × (l.s ≡ placed (λ k. l.x) l.from l.i l.initial.s)
-
-abbrev pub decreases-loop-i : goal.decreases-loop-i
-decreases-loop-i l = l.count - l.i
+invariant-loop-i g l = g.R.Real.floats l.s ≡ placed (λ k. g.R.Real.float l.x) l.from l.i (g.R.Real.floats l.initial.s)

@@ -1,7 +1,6 @@
--- What each turn of `pad::walk_front` keeps, and what falls with each.
+-- What each turn of `pad::walk_front` keeps.
 use mathlib.Core.Path.{◌≡◌}
-use Prim.Native.Nat.{◌-◌, ◌≤◌, ◌<◌}
-use lib.ListN.{length}
+use Prim.Native.Nat.{◌-◌, ◌<◌}
 use Rattle.numbers.specs.Words.{replaced}
 use Rattle.border.specs.declared.rule.Place.TheVariants.{Before}
 use Rattle.border.specs.Rule.{modulo}
@@ -9,8 +8,6 @@ use Rattle.border.specs.Reach.{lap_at}
 use Rattle.border.proofs.pad.walk_front.Given as goal
 
 abbrev pub invariant-loop-i : goal.invariant-loop-i
-invariant-loop-i l = (l.i ≤ l.left) × (length l.s ≡ length l.initial.s) × (l.q ≡ modulo (Before l.i) l.period) × (l.q < l.period)
-    × (l.s ≡ replaced (lap_at l.left l.period l.turn l.top l.initial.s) (l.left - l.i) l.i l.initial.s)
-
-abbrev pub decreases-loop-i : goal.decreases-loop-i
-decreases-loop-i l = l.left - l.i
+invariant-loop-i g l = let x = g.R.Real.floats l.initial.s in
+    (l.q ≡ modulo (Before l.i) l.period) × (l.q < l.period)
+    × (g.R.Real.floats l.s ≡ replaced (lap_at l.left l.period l.turn l.top x) (l.left - l.i) l.i x)

@@ -1,27 +1,26 @@
 -- `convolution::work::add_tap` meets its contract: each turn adds one product to one sum.
-use borrow.Author.Rules.{rules}
-use Rattle.convolution.specs.Works.{more, product}
-use Rattle.numbers.specs.Words.{at}
-use Rattle.numbers.specs.Write.{written_full, written_start, written_step}
+use Rattle.std.proofs.Common.{◌+◌, ◌∙◌, ap, arith}
+use Rattle.std.specs.Float.{nan}
+use Rattle.numbers.specs.Words.{tab}
 use Rattle.numbers.specs.Places.{get_or-written_behind}
-use lib.Ieee.{Float, add, binary64, nan}
-use lib.ListN.{length-set}
-use mathlib.Core.List.{List}
-use mathlib.Core.Path.{◌≡◌, ◌∙◌, ap}
-use native.Mathlib.Omega.{arith}
+use Rattle.numbers.specs.Write.{written_full, written_start, written_step}
+use Rattle.convolution.specs.Works.{more}
 use Rattle.convolution.proofs.work.add_tap.Goals as goal
 
 pub loop-q-init : goal.loop-q-init
-loop-q-init c = (search rules, search rules, written_start _ _)
+loop-q-init g c = written_start _ _
 
 pub loop-q-preserved : goal.loop-q-preserved
-loop-q-preserved c = let a = c.args in
-    let x = a.sums.now in
+loop-q-preserved g c = let a = c.args in let r = g.R.Real in let m = g.met.R.Real in
     let q = c.loop-q.q in
-    let g = more binary64 a.sums.now a.padded.now a.x a.tap in
-    let same : at c.loop-q.sums q ≡ at x q = ap (λ (y : List Float). at y q) c.loop-q.invariant.2 ∙ get_or-written_behind g q x q nan (omega arith) in
-    (search rules, simp length-set c.loop-q.invariant.1, written_step g q x (omega arith) c.loop-q.invariant.2 (ap (λ (y : Float). add binary64 y (product binary64 a.padded.now a.x a.tap q)) same))
+    let sums = r.floats a.sums.now in
+    let f = more r.format sums (r.floats a.padded.now) a.x (r.float a.tap) in
+    let sample = m.floats_at a.padded.now (a.x + q) c.index-padded-x.result (omega arith) in
+    let sum = m.floats_at c.loop-q.sums q c.index-sums-q.result (omega arith) in
+    let was = get_or-written_behind f q sums q nan (omega arith) in
+    simp m.floats_set (written_step f q sums (omega (arith, m.floats_length a.sums.now)) c.loop-q.invariant (cc))
 
 pub returns : goal.returns
-returns c = let a = c.args in
-    written_full (more binary64 a.sums.now a.padded.now a.x a.tap) c.loop-q.q a.sums.now c.loop-q.invariant.2 (search rules) (search rules)
+returns g c = let a = c.args in let r = g.R.Real in let n = g.met.R.Real.floats_length a.sums.now in
+    let f = more r.format (r.floats a.sums.now) (r.floats a.padded.now) a.x (r.float a.tap) in
+    written_full f c.loop-q.q (r.floats a.sums.now) c.loop-q.invariant (omega (arith, n)) (omega (arith, n)) ∙ ap (tab f) n

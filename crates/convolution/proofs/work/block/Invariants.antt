@@ -1,14 +1,8 @@
--- What each turn of `work::block` keeps, and what falls with each.
-use Prim.Native.Nat.{◌-◌, ◌<◌, ◌≤◌}
-use Rattle.convolution.specs.Works.{sum_from}
+-- What each turn of `work::block` keeps: before tap i each sum holds the products of the taps before it.
+use Rattle.std.specs.Prelude.{◌≡◌, ◌-◌, length}
 use Rattle.numbers.specs.Words.{tab}
-use lib.Ieee.{binary64}
-use lib.ListN.{length}
-use mathlib.Core.Path.{◌≡◌}
+use Rattle.convolution.specs.Works.{sum_from}
 use Rattle.convolution.proofs.work.block.Given as goal
 
 abbrev pub invariant-loop-i : goal.invariant-loop-i
-invariant-loop-i l = (0 < l.i) × (l.i ≤ length l.kernel) × (length l.sums ≡ length l.initial.sums) × (l.sums ≡ tab (sum_from binary64 l.kernel l.padded l.x (l.i - 1)) (length l.initial.sums))
-
-abbrev pub decreases-loop-i : goal.decreases-loop-i
-decreases-loop-i l = length l.kernel - l.i
+invariant-loop-i g l = let r = g.R.Real in r.floats l.sums ≡ tab (sum_from r.format (r.floats l.kernel) (r.floats l.padded) l.x (l.i - 1)) (length (r.floats l.initial.sums))

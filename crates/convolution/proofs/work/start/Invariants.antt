@@ -1,14 +1,8 @@
--- What each turn of `work::start` keeps, and what falls with each.
-use Prim.Native.Nat.{◌-◌, ◌≤◌}
-use Rattle.convolution.specs.Works.{product}
+-- What each turn of `work::start` keeps.
+use Rattle.std.specs.Prelude.{◌≡◌}
 use Rattle.numbers.specs.Words.{written}
-use lib.Ieee.{binary64}
-use lib.ListN.{length}
-use mathlib.Core.Path.{◌≡◌}
+use Rattle.convolution.specs.Works.{product}
 use Rattle.convolution.proofs.work.start.Given as goal
 
 abbrev pub invariant-loop-q : goal.invariant-loop-q
-invariant-loop-q l = (l.q ≤ length l.initial.sums) × (length l.sums ≡ length l.initial.sums) × (l.sums ≡ written (product binary64 l.padded l.x l.tap) l.q l.initial.sums)
-
-abbrev pub decreases-loop-q : goal.decreases-loop-q
-decreases-loop-q l = length l.initial.sums - l.q
+invariant-loop-q g l = let r = g.R.Real in r.floats l.sums ≡ written (product r.format (r.floats l.padded) l.x (r.float l.tap)) l.q (r.floats l.initial.sums)

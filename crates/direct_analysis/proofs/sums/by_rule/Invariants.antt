@@ -1,12 +1,8 @@
--- What each turn of `sums::by_rule` keeps, and what falls with each.
-use Prim.Native.Nat.{◌-◌, ◌≤◌}
+-- What each turn of `sums::by_rule` keeps: both sums of j taps.
 use mathlib.Core.Path.{◌≡◌}
 use lib.Ieee.{binary64}
 use Rattle.direct_analysis.specs.Works.{ruled_sum}
 use Rattle.direct_analysis.proofs.sums.by_rule.Given as goal
 
 abbrev pub invariant-loop-j : goal.invariant-loop-j
-invariant-loop-j l = (l.j ≤ l.f) × (l.sums.approx ≡ ruled_sum binary64 l.low l.f l.border l.line l.from l.j) × (l.sums.detail ≡ ruled_sum binary64 l.high l.f l.border l.line l.from l.j)
-
-abbrev pub decreases-loop-j : goal.decreases-loop-j
-decreases-loop-j l = l.f - l.j
+invariant-loop-j l = (l.sums.approx ≡ ruled_sum binary64 l.low l.f l.border l.line l.from l.j) × (l.sums.detail ≡ ruled_sum binary64 l.high l.f l.border l.line l.from l.j)

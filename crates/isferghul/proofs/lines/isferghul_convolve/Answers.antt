@@ -6,7 +6,7 @@ use mathlib.Core.Path.{refl, sym, ◌∙◌}
 use Rattle.isferghul.proofs.lines.isferghul_convolve.Goals as goal
 
 pub returns-then-no_border : goal.returns-then-no_border
-returns-then-no_border c = hidden (sym c.no_border.ensures ∙ c.if-no_border.true) c.one.ensures (refl, refl)
+returns-then-no_border g c = hidden (sym c.no_border.ensures ∙ c.if-no_border.true) c.one.ensures (refl, refl)
 
 pub returns : goal.returns
-returns c = under _ (sym c.no_border.ensures ∙ c.if-no_border.false) c.border_of.ensures (centred (back c.args.centre c.ranges.centre) c.convolve-answer.ensures) c.convolution.ensures
+returns g c = under _ (sym c.no_border.ensures ∙ c.if-no_border.false) c.border_of.ensures (centred (back c.args.centre c.ranges.centre) c.convolve-answer.ensures) c.convolution.ensures

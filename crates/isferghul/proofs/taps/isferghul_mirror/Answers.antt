@@ -5,7 +5,7 @@ use Rattle.bank.specs.Tested.{making_bare}
 use Rattle.isferghul.proofs.taps.isferghul_mirror.Goals as goal
 
 pub returns-in-Done : goal.returns-in-Done
-returns-in-Done c = record { answer = c.mirror.result; promised = c.mirror.ensures; given = ap number_of (sym c.in-Done.is); bare = making_bare c.mirror.result }
+returns-in-Done g c = record { answer = c.mirror.result; promised = c.mirror.ensures; given = ap number_of (sym c.in-Done.is); bare = making_bare c.mirror.result }
 
 pub returns-in-Taps : goal.returns-in-Taps
-returns-in-Taps c = record { answer = c.mirror.result; promised = c.mirror.ensures; given = ap number_of (sym c.in-Taps.is); bare = making_bare c.mirror.result }
+returns-in-Taps g c = record { answer = c.mirror.result; promised = c.mirror.ensures; given = ap number_of (sym c.in-Taps.is); bare = making_bare c.mirror.result }

@@ -1,38 +1,20 @@
 -- `laying::digits::decimal` meets its contract: each turn fills in one digit more, from the last before the newline, while there is more than one; the last is then filled in before them. A number of 64 bits has no more than 20.
-use mathlib.Core.Path.{◌≡◌, refl, sym, ◌∙◌}
-use Prim.Native.Nat.{◌<◌, ◌-◌}
+use mathlib.Core.Path.{◌≡◌, sym, ◌∙◌}
+use Prim.Native.Nat.{◌-◌}
 use native.Mathlib.Omega.{arith}
-use lib.Dec.{lit<}
 use lib.ListN.{take, drop, set, length-drop, length-set}
 use lib.Seq.{take_all}
 use Rattle.laying.specs.Digits.{place_left, rest_smaller, decimal_turn, decimal_end}
 use Rattle.laying.specs.Behind.{lays_as}
 use Rattle.laying.proofs.digits.decimal.Goals as goal
-use Rattle.laying.proofs.digits.decimal.Goals.{After-digit}
-
-pub loop-rest-init : goal.loop-rest-init
-loop-rest-init c = (lit< tt, refl, omega arith, refl)
-
--- more than one digit is still to be filled in
-more_left : (c : After-digit) → 0 < c.loop-rest.i
-more_left c = place_left c.loop-rest.i c.loop-rest.rest c.loop-rest.invariant.2 (omega arith)
-
-pub overflow_sub-i : goal.overflow_sub-i
-overflow_sub-i c = more_left (goal.at.overflow_sub-i c).After-digit
-
-pub loop-rest-smaller : goal.loop-rest-smaller
-loop-rest-smaller c = omega (arith, more_left (goal.at.loop-rest-smaller c).After-digit)
 
 pub loop-rest-preserved : goal.loop-rest-preserved
-loop-rest-preserved c = let some = more_left (goal.at.loop-rest-preserved c).After-digit in (
+loop-rest-preserved c = let some = place_left c.loop-rest.i c.loop-rest.rest c.loop-rest.invariant.2 (omega arith) in (
   omega arith,
   simp length-set c.loop-rest.invariant.1,
   rest_smaller c.loop-rest.i c.loop-rest.rest c.loop-rest.invariant.2 some,
   decimal_turn c.loop-rest.line c.loop-rest.i c.loop-rest.rest (omega arith) some (omega arith) c.digit.ensures c.loop-rest.invariant.3,
 )
-
-pub slice_bounds-bytes-end : goal.slice_bounds-bytes-end
-slice_bounds-bytes-end c = simp length-set (omega (arith, c.loop-rest.invariant.1))
 
 pub returns : goal.returns
 returns c = let i = c.loop-rest.i in

@@ -1,20 +1,18 @@
--- `laying::digits::pattern` meets its contract: a NaN alone differs from itself, and its bits are the number answered there; past that test the bits may be asked for.
-use mathlib.Core.Path.{◌≡◌, refl, sym, ap, ◌∙◌, subst}
-use lib.Dec.{T}
-use lib.Ieee.{nan, binary64, to_bits}
-use lib.Ieee.Compare.{differs_from_itself}
-use Rattle.numbers.specs.Tests.{no_nan}
+-- `laying::digits::pattern` meets its contract: a NaN has the bits of the number answered there.
+use mathlib.Core.Path.{◌≡◌, refl, sym, ap, ◌∙◌}
+use mathlib.Core.Bool.{true}
+use lib.Ieee.{Float, nan, inf, fin, binary64, to_bits, is_nan}
 use Rattle.laying.proofs.digits.pattern.Goals as goal
 
 nan_bits : 0x7FF8000000000000 ≡ to_bits binary64 nan
 unfolding to_bits
 nan_bits = refl
 
-pub returns-then-x : goal.returns-then-x
-returns-then-x c = nan_bits ∙ sym (ap (to_bits binary64) (differs_from_itself _ (subst T (sym c.if-x.true) tt)))
+the_nan : (x : Float) → is_nan x ≡ true → x ≡ nan
+unfolding is_nan
+the_nan nan e = refl
+the_nan (inf negative) e = cc
+the_nan (fin negative m k) e = cc
 
-pub float_to_bits-result : goal.float_to_bits-result
-float_to_bits-result c = no_nan _ c.if-x.false
-
-pub returns : goal.returns
-returns c = refl
+pub returns-then-is_nan : goal.returns-then-is_nan
+returns-then-is_nan c = nan_bits ∙ sym (ap (to_bits binary64) (the_nan c.args.x (sym c.is_nan.ensures.value ∙ c.if-is_nan.true)))

@@ -8,17 +8,11 @@ use Rattle.packed.specs.Lengths.{level_start, level_count}
 use Rattle.packed.proofs.depth.part_of.Goals as goal
 use Rattle.packed.proofs.depth.part_of.Goals.{After-down-above}
 
-pub down-deepest-requires : goal.down-deepest-requires
-down-deepest-requires c = c.requires.split.sound
-
 pub returns-then-level-eq0 : goal.returns-then-level-eq0
 returns-then-level-eq0 c = let a = c.args in
-    let w = deepest_part a.n a.f a.levels c.most.result c.down-deepest.result c.requires.split c.most.ensures c.down-deepest.ensures in
+    let w = deepest_part a.n a.f a.levels c.max.result c.down-deepest.result c.requires.split c.max.ensures c.down-deepest.ensures in
     let z : 0 ≡ a.level = sym c.if-level-eq0.true in
     (w.0 ∙ ap (level_start a.n a.f a.levels) z, w.1 ∙ ap (level_count a.n a.f a.levels) z)
-
-pub down-above-requires : goal.down-above-requires
-down-above-requires c = c.requires.split.sound
 
 -- the level above
 found : (c : After-down-above) → let a = c.args in

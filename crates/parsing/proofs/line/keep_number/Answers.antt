@@ -1,14 +1,17 @@
 -- `parsing::line::keep_number` meets its contract: where a separator ends the number it is set at its place, or lies past the buffer.
 use mathlib.Core.Bool.{not}
-use mathlib.Core.Path.{ap}
-use Rattle.parsing.specs.Bytes.{not_ended, past_end, stored}
+use mathlib.Core.Path.{sym, ap, subst}
+use mathlib.Core.List.{List}
+use lib.Ieee.{Float}
+use Prim.Native.Nat.{◌+◌}
+use Rattle.parsing.specs.Steps.{number_by}
+use Rattle.parsing.specs.Bytes.{Kept, past_end, stored}
 use Rattle.parsing.proofs.line.keep_number.Goals as goal
-
-pub returns-then-not-separates : goal.returns-then-not-separates
-returns-then-not-separates c = let a = c.args in not_ended a.negative a.size a.c a.out.now a.count c.separates.ensures (ap not c.if-not-separates.true)
-
-pub returns-then-out-count : goal.returns-then-out-count
-returns-then-out-count c = let a = c.args in past_end a.negative a.size a.c a.out.now a.count c.separates.ensures (ap not c.if-not-separates.false) c.if-out-count.true
+use Rattle.parsing.proofs.line.keep_number.Goals.{then-count-out, else-count-out}
 
 pub returns : goal.returns
-returns c = let a = c.args in stored a.negative a.size a.c a.out.now a.count c.separates.ensures (ap not c.if-not-separates.false) c.value.ensures
+returns c = let a = c.args in
+    elim c.if-count-out.branch [
+      | then-count-out w ↦ subst (λ (o : List Float). Kept a.negative a.size a.c a.out.now a.count (number_by a.negative a.size a.c) (a.count + 1) o) (sym w.out-is) (stored a.negative a.size a.c a.out.now a.count c.separates.ensures (ap not c.if-not-separates.false) w.value.ensures)
+      | else-count-out w ↦ subst (λ (o : List Float). Kept a.negative a.size a.c a.out.now a.count (number_by a.negative a.size a.c) (a.count + 1) o) (sym w.out-is) (past_end a.negative a.size a.c a.out.now a.count c.separates.ensures (ap not c.if-not-separates.false) w.if-count-out.false)
+    ]

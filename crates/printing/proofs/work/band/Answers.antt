@@ -9,4 +9,4 @@ pub overflow_add-result : goal.overflow_add-result
 overflow_add-result c = omega (arith, c.head-n.ensures.size, c.floats.ensures.size, length-count c.args.word.now (length c.args.l.now), length-floats c.args.l.now, c.requires)
 
 pub returns : goal.returns
-returns c = behind c.head-n.ensures c.least-k.ensures c.floats.ensures
+returns c = behind c.head-n.ensures c.min-k.ensures c.floats.ensures

@@ -11,4 +11,4 @@ pub overflow_add-result : goal.overflow_add-result
 overflow_add-result c = omega (arith, c.band-n.ensures.size, c.band.ensures.size, length-band (approx_word ++ (space ∷ [])) c.args.approx.now, length-band (detail_word ++ (space ∷ [])) c.args.detail.now, c.requires)
 
 pub returns : goal.returns
-returns c = behind c.band-n.ensures c.least-k.ensures c.band.ensures
+returns c = behind c.band-n.ensures c.min-k.ensures c.band.ensures

@@ -1,37 +1,28 @@
 -- `printing::work::floats` meets its contract: each turn lays one float's line behind those before it.
 use mathlib.Core.Path.{refl, sym, ap}
 use native.Mathlib.Omega.{arith}
-use Prim.Native.Nat.{◌+◌, ◌-◌}
+use Prim.Native.Nat.{◌+◌}
 use lib.ListN.{length, take}
 use lib.Seq.{take_all, length-take-le}
-use borrow.Rule.Slice.PartMut.{put_mid}
 use Rattle.texts.specs.Laying.{laid}
 use Rattle.texts.specs.Prints.{floats_text}
-use Rattle.laying.specs.Lays.{Lays}
-use Rattle.laying.specs.Behind.{behind, lays_as, length_lays}
+use Rattle.laying.specs.Behind.{behind, lays_as}
 use Rattle.printing.specs.Sizes.{length-floats, floats_more}
-use borrow.Author.Rules.{rules}
 use Rattle.printing.proofs.work.floats.Goals as goal
-use Rattle.printing.proofs.work.floats.Goals.{After-slice_known-in-loop-i-1}
 
-pub loop-i-init : goal.loop-i-init
+pub loop-x-init : goal.loop-x-init
 unfolding laid
-loop-i-init c = (search rules, refl, record { size = refl; laying = refl })
-
--- one line more
-next : (c : After-slice_known-in-loop-i-1) → let a = c.args in
-    Lays (floats_text (take (c.loop-i.i + 1) a.l.now)) a.out.now (c.loop-i.n + c.bits-n.result)
-    (put_mid c.least-k.result (length c.loop-i.out - c.least-k.result) c.loop-i.out c.bits-n.new.out)
-next c =
-    let a = c.args in
-    lays_as (floats_more a.l.now c.loop-i.i (omega arith)) (behind c.loop-i.invariant.2 c.least-k.ensures c.bits-n.ensures)
+loop-x-init c = record { size = refl; laying = refl }
 
 pub overflow_add-n : goal.overflow_add-n
-overflow_add-n c = let t = take (c.loop-i.i + 1) c.args.l.now in
-    omega (arith, (next (goal.at.overflow_add-n c).After-slice_known-in-loop-i-1).size, length-floats t, length-take-le (c.loop-i.i + 1) c.args.l.now (omega arith), c.requires)
+overflow_add-n c = let l = c.args.l.now in
+    let i = c.loop-x.x-index in
+    let t = take (i + 1) l in
+    omega (arith, (behind c.loop-x.invariant c.min-k.ensures c.bits-n.ensures).size, ap length (floats_more l i (omega arith)), length-floats t, length-take-le (i + 1) l (omega arith), c.requires)
 
-pub loop-i-preserved : goal.loop-i-preserved
-loop-i-preserved c = let more = next (goal.at.loop-i-preserved c).After-slice_known-in-loop-i-1 in (omega arith, length_lays more, more)
+-- one line more
+pub loop-x-preserved : goal.loop-x-preserved
+loop-x-preserved c = lays_as (floats_more c.args.l.now c.loop-x.x-index (omega arith)) (behind c.loop-x.invariant c.min-k.ensures c.bits-n.ensures)
 
 pub returns : goal.returns
-returns c = let a = c.args in lays_as (ap floats_text (sym (take_all c.loop-i.i a.l.now (omega arith)))) c.loop-i.invariant.2
+returns c = let a = c.args in lays_as (ap floats_text (sym (take_all c.loop-x.x-index a.l.now (omega arith)))) c.loop-x.invariant

@@ -8,4 +8,4 @@ pub overflow_add-result : goal.overflow_add-result
 overflow_add-result c = omega (arith, c.bytes-m.ensures.size, c.decimal.ensures.size, length-line c.args.n)
 
 pub returns : goal.returns
-returns c = behind c.bytes-m.ensures c.least-k.ensures c.decimal.ensures
+returns c = behind c.bytes-m.ensures c.min-k.ensures c.decimal.ensures

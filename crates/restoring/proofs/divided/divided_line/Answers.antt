@@ -4,7 +4,6 @@ use lib.ListN.{length}
 use mathlib.Core.Path.{◌∙◌, ap, refl, sym}
 use native.Mathlib.Omega.{arith}
 use Rattle.numbers.specs.Tests.{renewed}
-use Rattle.bank.specs.Tested.{counted_all}
 use Rattle.packed.specs.Lengths.{levels_of}
 use Rattle.dividing.specs.Divisions.{divided}
 use Rattle.dividing.specs.Divisors.{length-divided}
@@ -13,12 +12,8 @@ use Rattle.restoring.specs.Tested.{restoring}
 use Rattle.restoring.specs.Handed.{none_out, line_out, fronted}
 use Rattle.restoring.specs.TestedDivided.{divided_done, divided_refused}
 use Rattle.restoring.specs.Works.{Restoring}
-use borrow.Author.Rules.{rules}
 use Rattle.restoring.proofs.divided.divided_line.Goals as goal
 use Rattle.restoring.proofs.divided.divided_line.Goals.{In-Done}
-
-pub restore_divided-answer-requires : goal.restore_divided-answer-requires
-restore_divided-answer-requires c = counted_all (search rules) (search rules)
 
 pub returns-in_default : goal.returns-in_default
 returns-in_default c = let a = c.args in

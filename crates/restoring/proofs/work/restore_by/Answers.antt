@@ -1,12 +1,10 @@
 -- `restoring::work::restore_by` meets its contract: each turn is one join more of the recursion.
-use borrow.Author.Rules.{rules}
 use Rattle.dividing.specs.Divisions.{finished}
 use Rattle.dividing.specs.Divisors.{length-finished}
-use Rattle.restoring.specs.Lines.{first_by, second_by}
 use Rattle.restoring.specs.Joins.{first_start, second_start, first_more, second_more, long_enough, turning}
 use Rattle.restoring.specs.Works.{Restoring}
 use Rattle.packed.specs.Answers.{part_at}
-use Rattle.packed.specs.Follow.{inside, part_is, count_is, length_part, named, as_many, whole_length}
+use Rattle.packed.specs.Follow.{inside, part_is, count_is, length_part, as_many, whole_length}
 use Rattle.packed.specs.Lengths.{line_after, level_start, level_count}
 use Prim.Native.Nat.{ℕ, ◌+◌, ◌-◌, ◌≤◌, ◌<◌}
 use lib.Ieee.{Float, binary64}
@@ -15,24 +13,15 @@ use mathlib.Core.List.{List}
 use mathlib.Core.Path.{◌≡◌, ◌∙◌, refl, ap}
 use native.Mathlib.Omega.{arith}
 use Rattle.restoring.proofs.work.restore_by.Goals as goal
-use Rattle.restoring.proofs.work.restore_by.Goals.{After-part_of-last, After-part_of-part}
+use Rattle.restoring.proofs.work.restore_by.Goals.{After-part_of-part}
 
--- a part that was found lies in the packed buffer
-found : (n f levels p a b level start count : ℕ) → Restoring n f levels p a b → level ≤ levels → start ≡ level_start n f levels level → count ≡ level_count n f levels level
-    → start + count ≤ p
-found n f levels p a b level start count w h es ec =
-    omega (arith, inside n f levels level w.packs.sound.taps.two (omega (arith, h)), whole_length w.packs, es, ec)
-
-deepest_in : (c : After-part_of-last) → let a = c.args in c.part_of-last.result.start + c.part_of-last.result.count ≤ length a.packed.now
-deepest_in c =
-    let a = c.args in
-    found a.n a.f a.levels (length a.packed.now) _ _ 0 c.part_of-last.result.start c.part_of-last.result.count c.requires.1 (omega arith) c.part_of-last.ensures.0 c.part_of-last.ensures.1
-
+-- the details of a turn lie in the packed buffer
 detail_in : (c : After-part_of-part)
     → let a = c.args in c.part_of-part.result.start + c.part_of-part.result.count ≤ length a.packed.now
 detail_in c =
     let a = c.args in
-    found a.n a.f a.levels (length a.packed.now) _ _ (a.levels - c.loop-j.j) c.part_of-part.result.start c.part_of-part.result.count c.requires.1 (omega arith) c.part_of-part.ensures.0 c.part_of-part.ensures.1
+    let w = c.requires.1.packs in
+    omega (arith, inside a.n a.f a.levels (a.levels - c.loop-j.j) w.sound.taps.two (omega arith), whole_length w)
 
 -- both parts of a turn, over plain variables: which they are, and how long
 record Parts (n f levels j : ℕ) (packed : List Float) (start count from counted : ℕ) : Type 0 where
@@ -54,9 +43,6 @@ parts n f levels a b j packed start count from counted w h p q =
       detail_length = ap length t ∙ length_part n f levels (levels - j) packed w.packs.sound.taps.two (omega arith) (whole_length w.packs) ∙ count_is n f levels (levels - j) (omega (arith, h));
     }
 
-at_most : {x y z : ℕ} → x ≡ y → y ≤ z → x ≤ z
-at_most e h = rw e h
-
 these : (c : After-part_of-part)
     → let a = c.args in
     Parts a.n a.f a.levels c.loop-j.j a.packed.now c.part_of-last.result.start c.part_of-last.result.count c.part_of-part.result.start c.part_of-part.result.count
@@ -64,32 +50,15 @@ these c =
     let a = c.args in
     parts a.n a.f a.levels _ _ c.loop-j.j a.packed.now _ _ _ _ c.requires.1 c.loop-j-test.true c.part_of-last.ensures c.part_of-part.ensures
 
-pub part_of-last-requires : goal.part_of-last-requires
-part_of-last-requires c = named 0 c.requires.1.packs (omega arith)
-
-pub overflow_add-end : goal.overflow_add-end
-overflow_add-end c = omega (arith, deepest_in (goal.at.overflow_add-end c).After-part_of-last)
-
 pub loop-j-init : goal.loop-j-init
-loop-j-init c = let a = c.args in (
-  search rules,
-  refl,
-  refl,
-  first_start (finished binary64 a.how) binary64 a.f a.low.now a.high.now a.packed.now a.n a.levels a.first.now a.second.now,
-  second_start (finished binary64 a.how) binary64 a.f a.low.now a.high.now a.packed.now a.n a.levels a.first.now a.second.now,
-)
-
-pub part_of-part-requires : goal.part_of-part-requires
-part_of-part-requires c = named (c.args.levels - c.loop-j.j) c.requires.1.packs (omega arith)
+loop-j-init c = let a = c.args in
+    record {
+      firsts = first_start (finished binary64 a.how) binary64 a.f a.low.now a.high.now a.packed.now a.n a.levels a.first.now a.second.now;
+      seconds = second_start (finished binary64 a.how) binary64 a.f a.low.now a.high.now a.packed.now a.n a.levels a.first.now a.second.now;
+    }
 
 pub overflow_add-to : goal.overflow_add-to
 overflow_add-to c = omega (arith, detail_in (goal.at.overflow_add-to c).After-part_of-part)
-
-pub offset_bounds-packed-start : goal.offset_bounds-packed-start
-offset_bounds-packed-start c = omega (arith, deepest_in (goal.at.offset_bounds-packed-start c).After-part_of-last)
-
-pub slice_bounds-join_level-end : goal.slice_bounds-join_level-end
-slice_bounds-join_level-end c = omega (arith, deepest_in (goal.at.slice_bounds-join_level-end c).After-part_of-last)
 
 pub offset_bounds-packed-from : goal.offset_bounds-packed-from
 offset_bounds-packed-from c = omega (arith, detail_in (goal.at.offset_bounds-packed-from c).After-part_of-part)
@@ -99,28 +68,18 @@ slice_bounds-join_level-end-in-loop-j c = omega (arith, detail_in (goal.at.slice
 
 pub join_level-requires : goal.join_level-requires
 join_level-requires c = let a = c.args in
-    let t = turning a.n a.f a.levels (length a.packed.now) (length a.first.now) (length a.second.now) c.loop-j.j _ _ c.requires.1 c.loop-j-test.true
-    (these (goal.at.join_level-requires c).After-part_of-part).deepest_length (these (goal.at.join_level-requires c).After-part_of-part).detail_length in
-    (c.requires.0, record { taps = t.taps; few = t.few; deep = t.deep; grown = t.grown; room = omega (arith, t.room, c.loop-j.invariant.1); space = omega (arith, t.space, c.loop-j.invariant.2) })
+    let e = these (goal.at.join_level-requires c).After-part_of-part in
+    let t = turning a.n a.f a.levels (length a.packed.now) (length a.first.now) (length a.second.now) c.loop-j.j _ _ c.requires.1 c.loop-j-test.true e.deepest_length e.detail_length in
+    (c.requires.0, record { taps = t.taps; few = t.few; deep = t.deep; grown = t.grown; room = omega (arith, t.room); space = omega (arith, t.space) })
 
 pub loop-j-preserved : goal.loop-j-preserved
 loop-j-preserved c = let a = c.args in
     let i = c.loop-j.invariant in
     let j = c.loop-j.j in
+    let done = finished binary64 a.how in
     let e = these (goal.at.loop-j-preserved c).After-part_of-part in
-    let long = long_enough (finished binary64 a.how) binary64 a.low.now a.high.now a.packed.now a.n a.f a.levels _ _ _ j (length-finished binary64 a.how) c.requires.1 refl i.0 in
-    let enough = at_most e.detail_length long in (
-      omega (arith, c.loop-j-test.true),
-      c.join_level.auto.first ∙ i.1,
-      c.join_level.auto.second ∙ i.2,
-      c.join_level.ensures.0 ∙ first_more (finished binary64 a.how) binary64 a.f a.low.now a.high.now a.packed.now a.n a.levels a.first.now a.second.now j i.3 i.4 e.deepest e.detail enough,
-      c.join_level.ensures.1 ∙ second_more (finished binary64 a.how) binary64 a.f a.low.now a.high.now a.packed.now a.n a.levels a.first.now a.second.now j i.3 i.4 e.deepest e.detail enough,
-    )
-
-pub returns : goal.returns
-returns c = let a = c.args in
-    let i = c.loop-j.invariant in
-    let e : c.loop-j.j ≡ a.levels = omega (arith, i.0, c.loop-j-test.false) in (
-      i.3 ∙ ap (λ (k : ℕ). first_by (finished binary64 a.how) binary64 a.f a.low.now a.high.now a.packed.now a.n a.levels k a.first.now) e,
-      i.4 ∙ ap (λ (k : ℕ). second_by (finished binary64 a.how) binary64 a.f a.low.now a.high.now a.packed.now a.n a.levels k a.second.now) e,
-    )
+    let long = long_enough done binary64 a.low.now a.high.now a.packed.now a.n a.f a.levels _ _ _ j (length-finished binary64 a.how) c.requires.1 refl (omega arith) in
+    record {
+      firsts = c.join_level.ensures.0 ∙ first_more done binary64 a.f a.low.now a.high.now a.packed.now a.n a.levels a.first.now a.second.now j i.firsts i.seconds e.deepest e.detail (rw e.detail_length long);
+      seconds = c.join_level.ensures.1 ∙ second_more done binary64 a.f a.low.now a.high.now a.packed.now a.n a.levels a.first.now a.second.now j i.firsts i.seconds e.deepest e.detail (rw e.detail_length long);
+    }

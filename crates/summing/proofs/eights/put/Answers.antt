@@ -1,22 +1,14 @@
 -- `summing::eights::put` meets its contract: each turn puts one sum.
-use borrow.Author.Rules.{rules}
-use mathlib.Core.Path.{refl}
-use lib.ListN.{length-set}
+use native.Mathlib.Omega.{arith}
 use Rattle.numbers.specs.Words.{at}
-use Rattle.numbers.specs.Write.{placed_end, placed_start, placed_step}
+use Rattle.numbers.specs.Write.{placed_start, placed_step}
 use Rattle.summing.proofs.eights.put.Goals as goal
 
 pub loop-q-init : goal.loop-q-init
-loop-q-init c = (search rules, search rules, search rules, placed_start _ _ _)
+loop-q-init g c = placed_start _ _ _
 
 pub loop-q-preserved : goal.loop-q-preserved
-loop-q-preserved c = let a = c.args in (
-  search rules,
-  search rules,
-  simp length-set c.loop-q.invariant.2,
-  placed_step (at a.sums) a.to c.loop-q.q a.out.now (search rules) c.loop-q.invariant.3 refl,
-)
-
-pub returns : goal.returns
-returns c = let a = c.args in
-    placed_end (at a.sums) a.to c.loop-q.q 8 a.out.now c.loop-q.invariant.3 (search rules) (search rules)
+loop-q-preserved g c = let a = c.args in let r = g.R.Real in let m = g.met.R.Real in
+    let q = c.loop-q.q in
+    let sum = m.floats_at a.sums q c.index-sums-q.result (omega arith) in
+    simp m.floats_set (placed_step (at (r.floats a.sums)) a.to q (r.floats a.out.now) (omega (arith, m.floats_length a.out.now)) c.loop-q.invariant (cc))

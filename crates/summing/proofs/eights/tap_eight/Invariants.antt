@@ -1,15 +1,10 @@
--- What each turn of `eights::tap_eight` keeps, and what falls with each.
-use Prim.Native.Nat.{◌-◌, ◌≤◌}
+-- What each turn of `eights::tap_eight` keeps.
 use mathlib.Core.Path.{◌≡◌}
-use lib.ListN.{length}
-use lib.Ieee.{binary64}
 use Rattle.numbers.specs.Words.{written}
 use Rattle.summing.specs.Works.{tapped}
 use Rattle.summing.proofs.eights.tap_eight.Given as goal
 
 abbrev pub invariant-loop-q : goal.invariant-loop-q
-invariant-loop-q l = (l.q ≤ 8) × (length l.initial.approx ≡ 8) × (length l.initial.detail ≡ 8) × (length l.approx ≡ 8) × (length l.detail ≡ 8)
-    × (l.approx ≡ written (tapped binary64 l.initial.approx l.low l.padded l.from) l.q l.initial.approx) × (l.detail ≡ written (tapped binary64 l.initial.detail l.high l.padded l.from) l.q l.initial.detail)
-
-abbrev pub decreases-loop-q : goal.decreases-loop-q
-decreases-loop-q l = 8 - l.q
+invariant-loop-q g l = let r = g.R.Real in
+    (r.floats l.approx ≡ written (tapped r.format (r.floats l.initial.approx) (r.float l.low) (r.floats l.padded) l.from) l.q (r.floats l.initial.approx))
+    × (r.floats l.detail ≡ written (tapped r.format (r.floats l.initial.detail) (r.float l.high) (r.floats l.padded) l.from) l.q (r.floats l.initial.detail))

@@ -1,22 +1,17 @@
 -- `synthesis::work::clear` meets its contract: each turn clears one place more, from the front.
-use borrow.Author.Rules.{rules}
-use Prim.Native.Nat.{◌-◌}
-use Rattle.numbers.specs.Tests.{literal_zero}
+use mathlib.Core.Path.{◌∙◌, ap}
+use Rattle.numbers.specs.Words.{cleared}
 use Rattle.numbers.specs.Write.{written_start, written_step, written_full}
-use lib.Ieee.{binary64}
-use lib.ListN.{length-set}
 use native.Mathlib.Omega.{arith}
 use Rattle.synthesis.proofs.work.clear.Goals as goal
 
-pub loop-i-init : goal.loop-i-init
-loop-i-init c = (search rules, search rules, written_start _ _)
+pub loop-x-init : goal.loop-x-init
+loop-x-init g c = written_start _ _
 
-pub loop-i-preserved : goal.loop-i-preserved
-loop-i-preserved c = (
-  search rules,
-  simp length-set c.loop-i.invariant.1,
-  written_step _ _ _ (omega arith) c.loop-i.invariant.2 (literal_zero binary64),
-)
+pub loop-x-preserved : goal.loop-x-preserved
+loop-x-preserved g c = let m = g.met.R.Real in
+    simp m.floats_set (written_step _ _ (g.R.Real.floats c.args.line.now) (omega (arith, c.loop-x-test.true, m.floats_length c.args.line.now)) c.loop-x.invariant c.zero.ensures)
 
 pub returns : goal.returns
-returns c = written_full _ _ _ c.loop-i.invariant.2 (search rules) (search rules)
+returns g c = let long = g.met.R.Real.floats_length c.args.line.now in
+    written_full _ _ (g.R.Real.floats c.args.line.now) c.loop-x.invariant (omega (arith, long, c.loop-x.auto)) (omega (arith, long, c.loop-x-test.false)) ∙ ap cleared long

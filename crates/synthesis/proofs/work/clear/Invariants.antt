@@ -1,12 +1,7 @@
--- What each turn of `work::clear` keeps, and what falls with each.
-use Prim.Native.Nat.{◌-◌, ◌≤◌}
-use Rattle.numbers.specs.Words.{plus_zero, written}
-use lib.ListN.{length}
+-- What each turn of `work::clear` keeps.
 use mathlib.Core.Path.{◌≡◌}
+use Rattle.numbers.specs.Words.{plus_zero, written}
 use Rattle.synthesis.proofs.work.clear.Given as goal
 
-abbrev pub invariant-loop-i : goal.invariant-loop-i
-invariant-loop-i l = (l.i ≤ length l.initial.line) × (length l.line ≡ length l.initial.line) × (l.line ≡ written (λ p. plus_zero) l.i l.initial.line)
-
-abbrev pub decreases-loop-i : goal.decreases-loop-i
-decreases-loop-i l = length l.initial.line - l.i
+abbrev pub invariant-loop-x : goal.invariant-loop-x
+invariant-loop-x g l = g.R.Real.floats l.line ≡ written (λ p. plus_zero) l.x-index (g.R.Real.floats l.initial.line)

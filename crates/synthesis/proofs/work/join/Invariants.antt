@@ -1,13 +1,8 @@
--- What each turn of `work::join` keeps, and what falls with each.
-use Prim.Native.Nat.{◌-◌, ◌*◌, ◌≤◌}
+-- What each turn of `work::join` keeps.
 use mathlib.Core.Path.{◌≡◌}
-use lib.ListN.{length}
-use lib.Ieee.{binary64}
 use Rattle.synthesis.specs.Works.{joined_from}
 use Rattle.synthesis.proofs.work.join.Given as goal
 
 abbrev pub invariant-loop-k : goal.invariant-loop-k
-invariant-loop-k l = (l.initial.k ≤ l.k) × (2 * l.k ≤ length l.initial.out) × (length l.out ≡ length l.initial.out) × (l.out ≡ joined_from binary64 l.f l.low l.high l.approx l.detail l.initial.k l.k l.initial.out)
-
-abbrev pub decreases-loop-k : goal.decreases-loop-k
-decreases-loop-k l = l.n - l.k
+invariant-loop-k g l = let r = g.R.Real in
+    r.floats l.out ≡ joined_from r.format l.f (r.floats l.low) (r.floats l.high) (r.floats l.approx) (r.floats l.detail) l.done l.k (r.floats l.initial.out)

@@ -1,24 +1,16 @@
 -- `synthesis::work::thirty_twos` meets its contract: after a turn thirty_two places more have all their pairs, and the rest are as they were.
-use borrow.Author.Rules.{rules}
-use Prim.Native.Nat.{◌+◌, ◌-◌}
-use mathlib.Core.Path.{refl}
+use Prim.Native.Nat.{◌+◌, ◌*◌}
 use native.Mathlib.Omega.{arith}
-use lib.Ieee.{binary64}
-use Rattle.synthesis.specs.Runs.{still_taking, run_start, join_run}
+use Rattle.synthesis.specs.Runs.{run_start, join_run}
 use Rattle.synthesis.proofs.work.thirty_twos.Goals as goal
 
-pub loop-k-init : goal.loop-k-init
-loop-k-init c = let a = c.args in
-    (search rules, refl, run_start binary64 a.f a.low.now a.high.now a.approx.now a.detail.now 0 a.out.now)
+pub loop-t-init : goal.loop-t-init
+loop-t-init g c = let a = c.args in let r = g.R.Real in
+    run_start r.format a.f (r.floats a.low.now) (r.floats a.high.now) (r.floats a.approx.now) (r.floats a.detail.now) 0 (r.floats a.out.now)
 
-pub thirty_two-requires : goal.thirty_two-requires
-thirty_two-requires c = (still_taking c.requires c.loop-k.invariant.1, omega (arith, c.loop-k.invariant.1, c.loop-k-test.true))
-
-pub loop-k-preserved : goal.loop-k-preserved
-loop-k-preserved c = let a = c.args in let k = c.loop-k.k in
-    let next = join_run binary64 a.f a.low.now a.high.now a.approx.now a.detail.now 0 k (k + 16) 32 a.out.now
-    (omega arith) (omega arith) (omega (arith, c.loop-k-test.true)) c.loop-k.invariant.2 c.thirty_two.ensures in
-    (omega (arith, c.loop-k-test.true), search rules, next)
-
-pub returns : goal.returns
-returns c = (c.loop-k.invariant.0, c.loop-k.invariant.2)
+pub loop-t-preserved : goal.loop-t-preserved
+loop-t-preserved g c = let a = c.args in
+    let r = g.R.Real in
+    let t = c.loop-t.t in
+    join_run r.format a.f (r.floats a.low.now) (r.floats a.high.now) (r.floats a.approx.now) (r.floats a.detail.now) 0 (16 * t) (16 * (t + 1)) 32 (r.floats a.out.now)
+    (omega arith) (omega arith) (omega (arith, c.loop-t-test.true, g.met.R.Real.floats_length a.out.now)) c.loop-t.invariant c.thirty_two.ensures

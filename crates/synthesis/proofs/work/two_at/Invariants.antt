@@ -1,12 +1,7 @@
--- What each turn of `work::two_at` keeps, and what falls with each.
-use Prim.Native.Nat.{◌+◌, ◌*◌, ◌≤◌}
-use mathlib.Core.Path.{◌≡◌}
-use lib.Ieee.{binary64}
+-- What each turn of `work::two_at` keeps.
+use Prim.Native.Nat.{◌+◌}
 use Rattle.synthesis.specs.Runs.{Two}
 use Rattle.synthesis.proofs.work.two_at.Given as goal
 
-abbrev pub invariant-loop-j : goal.invariant-loop-j
-invariant-loop-j l = (l.k ≤ l.i) × (2 * l.i + l.j ≡ 2 * l.k + l.f) × Two binary64 l.f l.low l.high l.approx l.detail l.k l.out l.i l.even l.odd
-
-abbrev pub decreases-loop-j : goal.decreases-loop-j
-decreases-loop-j l = l.j
+abbrev pub invariant-loop-s : goal.invariant-loop-s
+invariant-loop-s g l = let r = g.R.Real in Two r.format l.f (r.floats l.low) (r.floats l.high) (r.floats l.approx) (r.floats l.detail) l.k (r.floats l.out) (l.k + l.s) (r.float l.even) (r.float l.odd)

@@ -1,0 +1,2 @@
+-- Laws that proofs here cite.
+pub mod Within

@@ -1,7 +1,0 @@
--- `line_telling::told::scratch` meets its contract: each arm tells its own number, and its values where it has any.
-use Rattle.convolution.specs.Sizes.{number_of, values_of}
-use Rattle.telling.specs.Telling.{told_as}
-use Rattle.line_telling.proofs.told.scratch.Goals as goal
-
-pub returns-in-Length : goal.returns-in-Length
-returns-in-Length c = told_as number_of values_of c.in-Length.is c.one.ensures

@@ -1,4 +1,0 @@
-// crates/numbers/src/lib.rt of 32-bit floats, made by tools/narrow.py.
-#![tactic(auto)]
-
-pub mod copying;

@@ -1,9 +1,0 @@
--- `parsing::line::separates` meets its contract: its tests are the definition's.
-use borrow.Author.Tests.{eq-eqb, ne_eqb}
-use Rattle.parsing.proofs.line.separates.Goals as goal
-
-pub returns-then-c-eq32 : goal.returns-then-c-eq32
-returns-then-c-eq32 c = simp (eq-eqb _ _ c.if-c-eq32.true)
-
-pub returns : goal.returns
-returns c = simp (ne_eqb _ _ c.if-c-eq32.false)
