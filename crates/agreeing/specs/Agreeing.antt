@@ -1,10 +1,10 @@
 -- Laws of both engines' bands: in buffers as long as the bands both analyses are done, so the lists that are compared are the definition's bands, twice; and what is laid and printed of a parting by another name.
-use Rattle.std.specs.Prelude.{◌≡◌, false, List, ℕ, ◌≤◌, length, take, Result, Float}
+use Rattle.std.specs.Prelude.{◌≡◌, false, List, ℕ, ◌≤◌, length, take, Result, ⊤, Float}
 use Rattle.std.proofs.Common.{sym, ap, ◌∙◌, subst, length-take-le}
 use Rattle.std.specs.Float.{binary64}
 use Rattle.numbers.specs.Tests.{renewed}
 use Rattle.bank.specs.declared.Bank.{Bank}
-use Rattle.analysis.specs.declared.Analysis.{Analysis}
+use Rattle.analysis.specs.declared.AnalysisError.{AnalysisError}
 use Rattle.analysis.specs.Analyses as Analyses
 use Rattle.analysis.specs.Lines.{band}
 use Rattle.analysis.specs.Works.{Analysing}
@@ -42,12 +42,12 @@ module _ (bank : Bank Float) (line p q scratch p2 q2 : List Float) (ready : Anal
   abbrev high : List Float
   high = band binary64 bank.high bank.taps bank.border line
 
-  direct_bands : {r : Analysis} {a d : List Float} → Direct.Analysed binary64 bank.low bank.high bank.taps bank.border line p2 q2 r a d → (a ≡ low) × (d ≡ high)
+  direct_bands : {r : Result ⊤ AnalysisError} {a d : List Float} → Direct.Analysed binary64 bank.low bank.high bank.taps bank.border line p2 q2 r a d → (a ≡ low) × (d ≡ high)
   direct_bands v =
       let z = ap Analyses.number_of (v.answer ∙ analysed_done _ _ _ _ ready.ready (e ∙ ready.approxed) (f ∙ ready.detailed)) in
       (renewed low p2 z v.approxes, renewed high q2 z v.details)
 
-  pub compared : {r r2 : Analysis} {a d s a2 d2 : List Float} {k : Parting} → Analyses.Analysed binary64 bank.low bank.high bank.taps bank.border line p q scratch r a d s
+  pub compared : {r r2 : Result ⊤ AnalysisError} {a d s a2 d2 : List Float} {k : Parting} → Analyses.Analysed binary64 bank.low bank.high bank.taps bank.border line p q scratch r a d s
       → Direct.Analysed binary64 bank.low bank.high bank.taps bank.border line p2 q2 r2 a2 d2
       → Parted a d a2 d2 k → k ≡ bank_parting bank line
   compared u v k =

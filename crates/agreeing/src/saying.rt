@@ -6,8 +6,8 @@ ghost use Rattle.agreeing.specs.Agreements.{parting_text};
 
 use laying::bytes;
 use parting::Parting;
-use printing::PrintError;
 use printing::work::head;
+use printing::{PrintError, print_by};
 
 // The text as far as the buffer reaches, and its length.
 fn lay_parting(parting: Parting, out: &mut [u8]) -> usize
@@ -20,16 +20,8 @@ fn lay_parting(parting: Parting, out: &mut [u8]) -> usize
     }
 }
 
-// The first laying, onto no place, tells how much room the text needs.
 pub fn print_parting(parting: Parting, out: &mut [u8]) -> Result<usize, PrintError>
     ensures { Printed false (parting_text parting) out.old result out.new }
 {
-    let need = lay_parting(parting, &mut out[..0]);
-    if out.len() < need {
-        return Err(PrintError::InputSize {
-            need,
-            have: out.len(),
-        });
-    }
-    Ok(lay_parting(parting, out))
+    print_by(|out| lay_parting(parting, out), out)
 }

@@ -25,8 +25,9 @@ fn compare(
     requires { Analysing bank.taps (length line.now) (length approx.old) (length detail.old) (length scratch.old) × (length approx2.old ≡ length approx.old) × (length detail2.old ≡ length detail.old) }
     ensures { result ≡ bank_parting bank line.now }
 {
-    analysis::analyse(bank, line, approx, detail, scratch);
-    direct_analysis::analyse(bank, line, approx2, detail2);
+    // both done: the buffers are as long as asked
+    let _ = analysis::analyse(bank, line, approx, detail, scratch);
+    let _ = direct_analysis::analyse(bank, line, approx2, detail2);
     parting(approx, detail, approx2, detail2)
 }
 

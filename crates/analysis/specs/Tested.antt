@@ -1,7 +1,7 @@
 -- Laws of the tests: an answer is done where every test passed, and nowhere else, which gives the work what it asks for.
-use Rattle.std.specs.Prelude.{◌≡◌, refl, ℕ, ◌+◌, ◌-◌, eqb, ltb, not}
-use Rattle.analysis.specs.declared.Analysis.{Analysis}
-use Rattle.analysis.specs.declared.Analysis.TheVariants.{Done, MinFilterSize, ApproxDetailsSize, ScratchSize, Limit, Taps}
+use Rattle.std.specs.Prelude.{◌≡◌, refl, ℕ, ◌+◌, ◌-◌, eqb, ltb, not, Result, ⊤, Ok, Err}
+use Rattle.analysis.specs.declared.AnalysisError.{AnalysisError}
+use Rattle.analysis.specs.declared.AnalysisError.TheVariants.{MinFilterSize, ApproxDetailsSize, ScratchSize, Limit, Taps}
 use Rattle.analysis.specs.Analyses.{answer_of, number_of}
 use Rattle.analysis.specs.Works.{Analysing}
 use Rattle.numbers.specs.Tests.{passed}
@@ -13,7 +13,7 @@ use Rattle.border.specs.Reach.{Paddable}
 use Rattle.bank.specs.Lengths.{bad_taps, padded_length, pairs, right_pad, Analysable}
 use Rattle.bank.specs.Tested.{good_taps, taps_pass, right_rest}
 
-pub analysing : (f n a d s : ℕ) → answer_of f n a d s ≡ Done → Analysing f n a d s
+pub analysing : (f n a d s : ℕ) → answer_of f n a d s ≡ Ok tt → Analysing f n a d s
 unfolding answer_of
 analysing f n a d s e =
     let p1 = passed number_of (bad_taps f) e (lit< tt) refl in
@@ -30,7 +30,7 @@ analysing f n a d s e =
     }
 
 -- and where it has that, the answer is done
-pub analysed_done : (f n a d s : ℕ) → Analysing f n a d s → answer_of f n a d s ≡ Done
+pub analysed_done : (f n a d s : ℕ) → Analysing f n a d s → answer_of f n a d s ≡ Ok tt
 unfolding answer_of
 analysed_done f n a d s p =
     simp (
@@ -43,13 +43,13 @@ analysed_done f n a d s p =
     )
 
 -- 0 is the number of done alone
-pub done_alone : (r : Analysis) → number_of r ≡ 0 → r ≡ Done
-done_alone Done e = refl
-done_alone (MinFilterSize n f) e = absurd (omega arith)
-done_alone (ApproxDetailsSize l) e = absurd (omega arith)
-done_alone (ScratchSize need have) e = absurd (omega arith)
-done_alone Limit e = absurd (omega arith)
-done_alone Taps e = absurd (omega arith)
+pub done_alone : (r : Result ⊤ AnalysisError) → number_of r ≡ 0 → r ≡ Ok tt
+done_alone (Ok done) e = refl
+done_alone (Err (MinFilterSize n f)) e = absurd (omega arith)
+done_alone (Err (ApproxDetailsSize l)) e = absurd (omega arith)
+done_alone (Err (ScratchSize need have)) e = absurd (omega arith)
+done_alone (Err Limit) e = absurd (omega arith)
+done_alone (Err Taps) e = absurd (omega arith)
 
 -- the pads of a line: they may be asked for, and with the line they fill the padded length
 pub pads : (b : Border) (n f : ℕ) {right : ℕ} → right ≡ right_pad n f → Analysable n f → Paddable b n (f - 2) right

@@ -13,9 +13,9 @@ use bank::sizes::bad_taps;
 use numbers::LONGEST;
 use numbers::real::Real;
 
-#[derive(Drop)]
-pub enum Analysis {
-    Done,
+// Why a line has no bands.
+#[derive(Clone, Copy, Debug, PartialEq, Eq)]
+pub enum AnalysisError {
     MinFilterSize { n: usize, f: usize },
     ApproxDetailsSize(usize),
     ScratchSize { need: usize, have: usize },
@@ -24,33 +24,39 @@ pub enum Analysis {
 }
 
 // The tests, on lengths alone.
-pub fn analysis_answer(f: usize, n: usize, approx: usize, detail: usize, scratch: usize) -> Analysis
+pub fn analysis_answer(
+    f: usize,
+    n: usize,
+    approx: usize,
+    detail: usize,
+    scratch: usize,
+) -> Result<(), AnalysisError>
     ensures { result ≡ answer_of f n approx detail scratch }
 {
     if bad_taps(f) {
-        return Analysis::Taps;
+        return Err(AnalysisError::Taps);
     }
     if LONGEST < n {
-        return Analysis::Limit;
+        return Err(AnalysisError::Limit);
     }
     if n < f {
-        return Analysis::MinFilterSize { n, f };
+        return Err(AnalysisError::MinFilterSize { n, f });
     }
     let m = dwt_length(n, f);
     if approx != m {
-        return Analysis::ApproxDetailsSize(approx);
+        return Err(AnalysisError::ApproxDetailsSize(approx));
     }
     if detail != m {
-        return Analysis::ApproxDetailsSize(detail);
+        return Err(AnalysisError::ApproxDetailsSize(detail));
     }
     let need = padded_length(m, f);
     if scratch < need {
-        return Analysis::ScratchSize {
+        return Err(AnalysisError::ScratchSize {
             need,
             have: scratch,
-        };
+        });
     }
-    Analysis::Done
+    Ok(())
 }
 
 // Both bands of a line, by way of the padded line at the front of the scratch.
@@ -60,7 +66,7 @@ pub fn analyse<R: Real>(
     approx: &mut [R],
     detail: &mut [R],
     scratch: &mut [R],
-) -> Analysis
+) -> Result<(), AnalysisError>
     ensures { Analysed R.format (R.floats bank.low) (R.floats bank.high) bank.taps bank.border (R.floats line.now) (R.floats approx.old) (R.floats detail.old) (R.floats scratch.old)
         result (R.floats approx.new) (R.floats detail.new) (R.floats scratch.new) }
 {

@@ -4,7 +4,7 @@ ghost use Rattle.bank.specs.Lengths.{Counted};
 ghost use Rattle.analysis.specs.Analyses.{Analysed};
 
 use crate::work::line_bands;
-use crate::{Analysis, analysis_answer};
+use crate::{AnalysisError, analysis_answer};
 use border::Border;
 use numbers::real::Real;
 
@@ -18,15 +18,12 @@ pub fn analyse<'a, R: Real>(
     approx: &mut [R],
     detail: &mut [R],
     scratch: &mut [R],
-) -> Analysis
+) -> Result<(), AnalysisError>
     requires { Counted f (length low.now) (length high.now) }
     ensures { Analysed R.format (R.floats low.now) (R.floats high.now) f border (R.floats line.now) (R.floats approx.old) (R.floats detail.old) (R.floats scratch.old)
         result (R.floats approx.new) (R.floats detail.new) (R.floats scratch.new) }
 {
-    let answer = analysis_answer(f, line.len(), approx.len(), detail.len(), scratch.len());
-    let Analysis::Done = answer else {
-        return answer;
-    };
+    analysis_answer(f, line.len(), approx.len(), detail.len(), scratch.len())?;
     line_bands(low, high, f, border, line, approx, detail, scratch);
-    Analysis::Done
+    Ok(())
 }

@@ -10,8 +10,8 @@ use Rattle.border.specs.declared.Border.{Border}
 use Rattle.bank.specs.declared.Bank.{Bank}
 use Rattle.bank.specs.declared.making.Making.{Making}
 use Rattle.bank.specs.declared.making.Making.TheVariants as making
-use Rattle.bank.specs.declared.sizes.Size.{Size}
-use Rattle.bank.specs.declared.sizes.Size.TheVariants as size
+use Rattle.bank.specs.declared.sizes.SizeError.{SizeError}
+use Rattle.bank.specs.declared.sizes.SizeError.TheVariants as size
 use Rattle.bank.specs.Lengths.{pairs, Analysable}
 use Rattle.bank.specs.Banks as Banks
 use Rattle.bank.specs.Sizes as Sizes
@@ -29,23 +29,15 @@ use Rattle.answering.specs.declared.asking.Asked.{Asked}
 use Rattle.answering.specs.declared.asking.Refusal.{Refusal}
 use Rattle.answering.specs.declared.asking.Refusal.TheVariants.{Unreadable, Taps, MinFilterSize, ZeroedBaseSize, Limit, InputSize}
 use Rattle.answering.specs.Answers.{refusal_of, both_text, said_of, bank_text, Banded, TextSaid}
-use Rattle.answering.specs.Asks.{refusal_number, number_of, sized_of, line_in, ListsAsked, Placed, TextAsked}
+use Rattle.answering.specs.Asks.{refusal_number, number_of, size_refusal, line_in, ListsAsked, Placed, TextAsked}
 use Rattle.answering.specs.Answering.{few_samples}
 
--- ---- a band's length, and refusals, by their numbers
-sized_number : (r : Size) {k : Refusal} → sized_of r ≡ Err k → refusal_number k ≡ Sizes.number_of r
-sized_number (size.Length m) {k} e = cc
-sized_number (size.MinFilterSize n f) {k} e = let h : MinFilterSize ≡ k = cc in ap refusal_number (sym h)
-sized_number size.ZeroedBaseSize {k} e = let h : ZeroedBaseSize ≡ k = cc in ap refusal_number (sym h)
-sized_number size.Limit {k} e = let h : Limit ≡ k = cc in ap refusal_number (sym h)
-sized_number size.Taps {k} e = let h : Taps ≡ k = cc in ap refusal_number (sym h)
-
-sized_length : (r : Size) {m : ℕ} → sized_of r ≡ Ok m → r ≡ size.Length m
-sized_length (size.Length k) e = cc
-sized_length (size.MinFilterSize n f) e = cc
-sized_length size.ZeroedBaseSize e = cc
-sized_length size.Limit e = cc
-sized_length size.Taps e = cc
+-- ---- refusals by their numbers
+size_number : (e : SizeError) → refusal_number (size_refusal e) ≡ Sizes.number_of (Err e)
+size_number (size.MinFilterSize n f) = refl
+size_number size.ZeroedBaseSize = refl
+size_number size.Limit = refl
+size_number size.Taps = refl
 
 some_number : (k : Refusal) → 0 < refusal_number k
 some_number Unreadable = omega arith
@@ -57,7 +49,7 @@ some_number InputSize = omega arith
 
 -- ---- ways through the tests of two lists, which may have made a bank, and n samples
 module _ {b : Border} {low high : List Float} (n : ℕ) {made : Making} {bank : Bank Float} (w : Banks.BankMade low high b made bank) where
-  abbrev sizing : Size
+  abbrev sizing : Result ℕ SizeError
   sizing = Sizes.of_samples n (length low) (pairs n (length low))
 
   -- by another name of the lists' answer
@@ -71,18 +63,16 @@ module _ {b : Border} {low high : List Float} (n : ℕ) {made : Making} {bank : 
   unmade e = refused_by (first e)
 
   -- where the bank was made the line decides
-  module _ (e : made ≡ making.Done) {r : Size} (f : r ≡ sizing) where
-    pub unsized : {k : Refusal} → sized_of r ≡ Err k → ListsAsked b low high n (Err k)
-    unsized {k} g = refused_by (sized_number r g ∙ ap Sizes.number_of f ∙ first e)
+  module _ (e : made ≡ making.Done) {r : Result ℕ SizeError} (f : r ≡ sizing) where
+    pub unsized : {k : SizeError} → r ≡ Err k → ListsAsked b low high n (Err (size_refusal k))
+    unsized {k} g = refused_by (size_number k ∙ ap Sizes.number_of (sym g ∙ f) ∙ first e)
 
-    pub both_asked : {m : ℕ} {a : Asked} → sized_of r ≡ Ok m → a.bank ≡ bank → a.m ≡ m → ListsAsked b low high n (Ok a)
-    both_asked {m} g held s =
-        let k = sized_length r g in
-        record {
-          refusal = ap Sizes.number_of (sym k ∙ f) ∙ first e;
-          made = held ∙ renewed _ _ (ap Banks.number_of e) w.made;
-          size = s ∙ (sized n (length low) (pairs n (length low)) _ (sym f ∙ k)).given;
-        }
+    pub both_asked : {m : ℕ} {a : Asked} → r ≡ Ok m → a.bank ≡ bank → a.m ≡ m → ListsAsked b low high n (Ok a)
+    both_asked {m} g held s = record {
+      refusal = ap Sizes.number_of (sym g ∙ f) ∙ first e;
+      made = held ∙ renewed _ _ (ap Banks.number_of e) w.made;
+      size = s ∙ (sized n (length low) (pairs n (length low)) _ (sym f ∙ g)).given;
+    }
 
 -- ---- what is not refused
 -- a line and taps that no test refuses can be analysed
@@ -93,12 +83,12 @@ unrefused low high n e = go (Sizes.of_samples n low (pairs n low)) refl (later (
     later zero h = h
     later (suc k) h = absurd (omega (arith, h))
 
-    go : (r : Size) → Sizes.of_samples n low (pairs n low) ≡ r → Sizes.number_of r ≡ 0 → Analysable n low
-    go (size.Length m) g h = (sized n low (pairs n low) m g).ready
-    go (size.MinFilterSize k f) g h = absurd (omega (arith, h))
-    go size.ZeroedBaseSize g h = absurd (omega (arith, h))
-    go size.Limit g h = absurd (omega (arith, h))
-    go size.Taps g h = absurd (omega (arith, h))
+    go : (r : Result ℕ SizeError) → Sizes.of_samples n low (pairs n low) ≡ r → Sizes.number_of r ≡ 0 → Analysable n low
+    go (Ok m) g h = (sized n low (pairs n low) m g).ready
+    go (Err (size.MinFilterSize k f)) g h = absurd (omega (arith, h))
+    go (Err size.ZeroedBaseSize) g h = absurd (omega (arith, h))
+    go (Err size.Limit) g h = absurd (omega (arith, h))
+    go (Err size.Taps) g h = absurd (omega (arith, h))
 
 -- a bank's arrays read as the lists that made it do
 bank_said : (say : List Float → List Float → List ℕ) (b : Border) (low high line : List Float) {bank : Bank Float} → bank ≡ Banks.bank_of low (at high) b

@@ -7,8 +7,8 @@ use Rattle.border.specs.declared.Border.{Border}
 use Rattle.bank.specs.Banks.{bank_of}
 use Rattle.bank.specs.Lengths.{pairs}
 use Rattle.texts.specs.Texts.{Request, Stands}
-use Rattle.bank.specs.declared.sizes.Size.{Size}
-use Rattle.bank.specs.declared.sizes.Size.TheVariants as size
+use Rattle.bank.specs.declared.sizes.SizeError.{SizeError}
+use Rattle.bank.specs.declared.sizes.SizeError.TheVariants as size
 use Rattle.parsing.specs.declared.ParseError.{ParseError}
 use Rattle.parsing.specs.declared.ParseError.TheVariants as parsed
 use Rattle.parsing.specs.Parses as Parses
@@ -35,12 +35,11 @@ abbrev pub unparsed : ParseError → Refusal
 unparsed (parsed.InputSize need have) = InputSize
 unparsed parsed.Unreadable = Unreadable
 
-abbrev pub sized_of : Size → Result ℕ Refusal
-sized_of (size.Length m) = Ok m
-sized_of (size.MinFilterSize n f) = Err MinFilterSize
-sized_of size.ZeroedBaseSize = Err ZeroedBaseSize
-sized_of size.Limit = Err Limit
-sized_of size.Taps = Err Taps
+abbrev pub size_refusal : SizeError → Refusal
+size_refusal (size.MinFilterSize n f) = MinFilterSize
+size_refusal size.ZeroedBaseSize = ZeroedBaseSize
+size_refusal size.Limit = Limit
+size_refusal size.Taps = Taps
 
 -- of two tap lists and n samples: the number of the first test that fails, and where none does the lists' bank and the length of a band
 pub record ListsAsked (b : Border) (low high : List Float) (n : ℕ) (r : Result Asked Refusal) : Type 0 where

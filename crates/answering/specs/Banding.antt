@@ -1,11 +1,11 @@
 -- Laws of a bank and a line: the buffers have room for its bands, so analysis is done and the parts that took them are printed.
-use Rattle.std.specs.Prelude.{◌≡◌, Bool, false, List, ◌++◌, ℕ, ◌≤◌, length, take, drop, Result, Float}
+use Rattle.std.specs.Prelude.{◌≡◌, Bool, false, List, ◌++◌, ℕ, ◌≤◌, length, take, drop, Result, ⊤, Float}
 use Rattle.std.proofs.Common.{sym, ap, ◌∙◌, subst, arith, length-append, take_at, length-take-le}
 use Rattle.std.specs.Float.{binary64}
 use Rattle.numbers.specs.Tests.{renewed}
 use Rattle.bank.specs.declared.Bank.{Bank}
 use Rattle.bank.specs.Lengths.{padded_length}
-use Rattle.analysis.specs.declared.Analysis.{Analysis}
+use Rattle.analysis.specs.declared.AnalysisError.{AnalysisError}
 use Rattle.analysis.specs.Analyses as Analyses
 use Rattle.analysis.specs.Lines.{band}
 use Rattle.analysis.specs.Taps.{length-band}
@@ -58,13 +58,13 @@ module _ (bank : Bank Float) (line p q scratch : List Float) (ready : Analysing 
   high = band binary64 bank.high bank.taps bank.border line
 
   -- each takes its band
-  pub analysed_bands : {r : Analysis} {a d s : List Float} → Analyses.Analysed binary64 bank.low bank.high bank.taps bank.border line p q scratch r a d s → (a ≡ low) × (d ≡ high)
+  pub analysed_bands : {r : Result ⊤ AnalysisError} {a d s : List Float} → Analyses.Analysed binary64 bank.low bank.high bank.taps bank.border line p q scratch r a d s → (a ≡ low) × (d ≡ high)
   analysed_bands w =
       let z = ap Analyses.number_of (w.answer ∙ analysed_done bank.taps (length line) (length p) (length q) (length scratch) ready) in
       (renewed low p z w.approxes, renewed high q z w.details)
 
   -- and both are printed from where they lie
-  pub bands_printed : {m : ℕ} {r : Analysis} {a d s : List Float} {text text' : List ℕ} {print : Result ℕ PrintError} (x y : List Float) → Banded (length line) bank.taps m
+  pub bands_printed : {m : ℕ} {r : Result ⊤ AnalysisError} {a d s : List Float} {text text' : List ℕ} {print : Result ℕ PrintError} (x y : List Float) → Banded (length line) bank.taps m
       → Analyses.Analysed binary64 bank.low bank.high bank.taps bank.border line p q scratch r a d s
       → Printed (too_long (take m (a ++ x)) (take m (d ++ y))) (bands_text (take m (a ++ x)) (take m (d ++ y))) text print text'
       → Printed false (bank_text bands_text bank line) text print text'

@@ -1,11 +1,11 @@
 // What a text asks for: a bank and a line of samples, or why it is refused.
 ghost use Rattle.std.specs.Prelude.{◌≡◌, ◌+◌, ◌-◌, ◌≤◌, length, take, IfOk};
 ghost use Rattle.answering.specs.Answers.{most_numbers};
-ghost use Rattle.answering.specs.Asks.{refusal_number, unparsed, sized_of, line_in, ListsAsked, TextAsked};
+ghost use Rattle.answering.specs.Asks.{refusal_number, unparsed, size_refusal, line_in, ListsAsked, TextAsked};
 
 use bank::Bank;
 use bank::making::{Making, bank};
-use bank::sizes::{Size, band_length};
+use bank::sizes::{SizeError, band_length};
 use border::Border;
 use parsing::{ParseError, Request, parse};
 
@@ -56,16 +56,16 @@ impl From<ParseError> for Refusal {
     }
 }
 
-// How long each band is.
-fn sized(size: Size) -> Result<usize, Refusal>
-    ensures { result ≡ sized_of size }
-{
-    match size {
-        Size::Length(m) => Ok(m),
-        Size::MinFilterSize { .. } => Err(Refusal::MinFilterSize),
-        Size::ZeroedBaseSize => Err(Refusal::ZeroedBaseSize),
-        Size::Limit => Err(Refusal::Limit),
-        Size::Taps => Err(Refusal::Taps),
+impl From<SizeError> for Refusal {
+    ghost from_gives = { λ e r. r ≡ size_refusal e };
+
+    fn from(e: SizeError) -> Refusal {
+        match e {
+            SizeError::MinFilterSize { .. } => Refusal::MinFilterSize,
+            SizeError::ZeroedBaseSize => Refusal::ZeroedBaseSize,
+            SizeError::Limit => Refusal::Limit,
+            SizeError::Taps => Refusal::Taps,
+        }
     }
 }
 
@@ -84,7 +84,7 @@ fn ask_lists(
     let Making::Done = made.answer else {
         return Err(Refusal::Taps);
     };
-    let m = sized(band_length(end - from, low.len()))?;
+    let m = band_length(end - from, low.len())?;
     Ok(Asked {
         bank: made.bank,
         from,

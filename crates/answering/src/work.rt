@@ -22,7 +22,8 @@ fn answer_bands(
     requires { Banded (length line.now) bank.taps m × Roomy (length approx.old) (length detail.old) (length scratch.old) }
     ensures { Printed false (bank_text bands_text bank line.now) out.old result out.new }
 {
-    analyse(bank, line, &mut approx[..m], &mut detail[..m], scratch);
+    // done: the buffers have room
+    let _ = analyse(bank, line, &mut approx[..m], &mut detail[..m], scratch);
     print_bands(&approx[..m], &detail[..m], out)
 }
 

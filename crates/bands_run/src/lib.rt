@@ -1,8 +1,8 @@
-// What the program `bands` does: it reads a text, has it answered, and writes the answer.
+// What a program does that answers a text, as `bands` does: it reads the text, has it answered, and writes the answer.
 #![tactic(auto)]
 
-ghost use Rattle.std.specs.Prelude.{◌≤◌, length};
-ghost use Rattle.answering.specs.Answers.{roomiest, size_in};
+ghost use Rattle.std.specs.Prelude.{◌≡◌, ℕ, ◌<◌, ◌≤◌, ◌^◌, length};
+ghost use Rattle.answering.specs.Answers.{size_in};
 
 use answering::{ROOMIEST, answer};
 use parsing::LONGEST_TEXT;
@@ -29,17 +29,23 @@ pub fn write_printed(printed: Result<usize, PrintError>, out: &[u8], to: i32) ->
     }
 }
 
-fn respond(text: &[u8], out: &mut [u8], to: i32) -> bool
-    requires { roomiest ≤ length out.old }
+// Whether all of an answer was taken, which ROOM bytes hold, as io::write_all tells: no contract says what is written, nor that what was taken arrives.
+pub fn run_by<const ROOM: usize, F: FnOnce(&[u8], &mut [u8]) -> Result<usize, PrintError>>(
+    answer: F,
+    from: i32,
+    to: i32,
+) -> bool
+    requires small { ROOM < 2 ^ 63 }
+    requires callable { F.IsAlwaysCallable answer }
+    requires whole { (text : _) (x : _) (printed : _) (y : _) → F.post answer text x printed y → length x.now ≡ ROOM → (n : ℕ) × (printed ≡ Ok n) × (n ≤ ROOM) }
 {
-    let printed = answer(text, out);
-    write_printed(printed, out, to)
+    let mut text = [0u8; MOST_READ];
+    let mut out = [0u8; ROOM];
+    let n = io::read_full(from, &mut text);
+    let printed = answer(&text[..n], &mut out);
+    write_printed(printed, &out, to)
 }
 
-// Whether all of the answer was taken, as io::write_all tells: no contract says what is written, nor that what was taken arrives.
 pub fn run_on(from: i32, to: i32) -> bool {
-    let mut text = [0u8; MOST_READ];
-    let mut out = [0u8; ROOMIEST];
-    let n = io::read_full(from, &mut text);
-    respond(&text[..n], &mut out, to)
+    run_by::<ROOMIEST, _>(answer, from, to)
 }

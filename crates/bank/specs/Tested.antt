@@ -1,8 +1,8 @@
 -- Laws of the tests: where an answer is done every test passed, which gives the work what it asks for.
-use Rattle.std.specs.Prelude.{◌≡◌, refl, ◌%◌, ◌<◌, ◌≤◌, suc, zero, ℕ, ◌+◌, ◌-◌, ◌*◌, ◌/◌, eqb, ltb, ◌||◌, false, not, Bool, cond, true, Float, ◌≢◌, List, []}
+use Rattle.std.specs.Prelude.{◌≡◌, refl, ◌%◌, ◌<◌, ◌≤◌, suc, zero, ℕ, ◌+◌, ◌-◌, ◌*◌, ◌/◌, eqb, ltb, ◌||◌, false, not, Bool, cond, true, Float, ◌≢◌, List, [], Result, Ok, Err}
 use Rattle.std.proofs.Common.{ap, sym, ◌∙◌, eqb-true, ltb-false, eq-eqb, ne_eqb, le-ltb, lit<, arith}
-use Rattle.bank.specs.declared.sizes.Size.{Size}
-use Rattle.bank.specs.declared.sizes.Size.TheVariants as size
+use Rattle.bank.specs.declared.sizes.SizeError.{SizeError}
+use Rattle.bank.specs.declared.sizes.SizeError.TheVariants as size
 use Rattle.bank.specs.declared.Bank.{Bank}
 use Rattle.bank.specs.declared.making.Making.{Making}
 use Rattle.bank.specs.declared.making.Making.TheVariants as making
@@ -41,9 +41,9 @@ taps_pass f g =
 pub record Sized (n f l m : ℕ) : Type 0 where
   pub ready : Analysable n f
   pub given : m ≡ l
-  pub other : (k : ℕ) → size.Length k ≡ Sizes.of_samples n f k
+  pub other : (k : ℕ) → Ok k ≡ Sizes.of_samples n f k
 
-pub sized : (n f l m : ℕ) → Sizes.of_samples n f l ≡ size.Length m → Sized n f l m
+pub sized : (n f l m : ℕ) → Sizes.of_samples n f l ≡ Ok m → Sized n f l m
 sized n f l m e =
     let p1 = passed Sizes.number_of (bad_taps f) e (lit< tt) refl in
     let p2 = passed Sizes.number_of (ltb longest n) p1.1 (lit< tt) refl in
@@ -56,11 +56,11 @@ sized n f l m e =
     }
 
 -- a length is refused, or given, whatever it is
-pub sized_alike : (n f l k : ℕ) (r : Size) → r ≡ Sizes.of_samples n f l → 0 < Sizes.number_of r → r ≡ Sizes.of_samples n f k
+pub sized_alike : (n f l k : ℕ) (r : Result ℕ SizeError) → r ≡ Sizes.of_samples n f l → 0 < Sizes.number_of r → r ≡ Sizes.of_samples n f k
 sized_alike n f l k r e h = go (bad_taps f) (ltb longest n) (ltb n f) e
   where
-    go : (s t u : Bool) → r ≡ cond s size.Taps (cond t size.Limit (cond u (size.MinFilterSize n f) (size.Length l)))
-        → r ≡ cond s size.Taps (cond t size.Limit (cond u (size.MinFilterSize n f) (size.Length k)))
+    go : (s t u : Bool) → r ≡ cond s (Err size.Taps) (cond t (Err size.Limit) (cond u (Err (size.MinFilterSize n f)) (Ok l)))
+        → r ≡ cond s (Err size.Taps) (cond t (Err size.Limit) (cond u (Err (size.MinFilterSize n f)) (Ok k)))
     go true t u e = e
     go false true u e = e
     go false false true e = e

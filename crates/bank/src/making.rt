@@ -14,7 +14,7 @@ pub enum Making {
     Taps,
 }
 
-// The answer, and the bank beside it: of no taps where it is refused.
+// The answer, and the bank beside it, of no taps where it is refused: no Result, since the promise says what bank stands there (`BankMade`).
 #[derive(Drop)]
 pub struct Made<R: Copy = f64> {
     pub answer: Making,
@@ -60,6 +60,7 @@ fn refused<R: Real>(border: Border) -> Made<R>
     }
 }
 
+#[tactic(auto, unfolding(crate::specs::Lengths::bad_taps))]
 pub fn bank<R: Real>(low: &[R], high: &[R], border: Border) -> Made<R>
     ensures { BankMade (R.floats low.now) (R.floats high.now) border result.answer (held_in (R.floats result.bank.low) (R.floats result.bank.high) (R.floats result.bank.lowback) (R.floats result.bank.highback) result.bank.taps result.bank.border) }
 {
@@ -73,6 +74,7 @@ pub fn bank<R: Real>(low: &[R], high: &[R], border: Border) -> Made<R>
 }
 
 // A bank whose high taps follow from the low ones.
+#[tactic(auto, unfolding(crate::specs::Lengths::bad_taps))]
 pub fn mirrored<R: Real>(low: &[R], border: Border) -> Made<R>
     ensures { MirrorMade (R.floats low.now) border result.answer (held_in (R.floats result.bank.low) (R.floats result.bank.high) (R.floats result.bank.lowback) (R.floats result.bank.highback) result.bank.taps result.bank.border) }
 {
@@ -96,6 +98,7 @@ pub fn pairs_answer(low: usize, high: usize, lowback: usize, highback: usize) ->
 }
 
 // A bank whose way back has a pair of its own.
+#[tactic(auto, using(crate::specs::Pairs::alike))]
 pub fn two_pairs<R: Real>(
     low: &[R],
     high: &[R],

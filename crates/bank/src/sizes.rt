@@ -6,9 +6,9 @@ ghost use Rattle.bank.specs.Sizes.{BandSized, LineSized, ScratchSized};
 use crate::lengths::{dwt_length, idwt_length, padded_length};
 use numbers::LONGEST;
 
-#[derive(Drop)]
-pub enum Size {
-    Length(usize),
+// Why no length is given.
+#[derive(Clone, Copy, Debug, PartialEq, Eq)]
+pub enum SizeError {
     MinFilterSize { n: usize, f: usize },
     ZeroedBaseSize,
     Limit,
@@ -24,44 +24,43 @@ pub fn bad_taps(f: usize) -> bool
 }
 
 // How long each band of n samples is.
-pub fn band_length(n: usize, f: usize) -> Size
+#[tactic(auto, unfolding(crate::specs::Lengths::bad_taps))]
+pub fn band_length(n: usize, f: usize) -> Result<usize, SizeError>
     ensures { BandSized n f result }
 {
     if bad_taps(f) {
-        return Size::Taps;
+        return Err(SizeError::Taps);
     }
     if LONGEST < n {
-        return Size::Limit;
+        return Err(SizeError::Limit);
     }
     if n < f {
-        return Size::MinFilterSize { n, f };
+        return Err(SizeError::MinFilterSize { n, f });
     }
-    Size::Length(dwt_length(n, f))
+    Ok(dwt_length(n, f))
 }
 
 // How many places m pairs give.
-pub fn line_length(m: usize, f: usize) -> Size
+#[tactic(auto, unfolding(crate::specs::Lengths::bad_taps))]
+pub fn line_length(m: usize, f: usize) -> Result<usize, SizeError>
     ensures { LineSized m f result }
 {
     if bad_taps(f) {
-        return Size::Taps;
+        return Err(SizeError::Taps);
     }
     if LONGEST < m {
-        return Size::Limit;
+        return Err(SizeError::Limit);
     }
     if 2 * m + 2 <= f {
-        return Size::ZeroedBaseSize;
+        return Err(SizeError::ZeroedBaseSize);
     }
-    Size::Length(idwt_length(m, f))
+    Ok(idwt_length(m, f))
 }
 
 // How much scratch analysis of n samples needs.
-pub fn analysis_scratch(n: usize, f: usize) -> Size
+pub fn analysis_scratch(n: usize, f: usize) -> Result<usize, SizeError>
     ensures { ScratchSized n f result }
 {
-    let size = band_length(n, f);
-    let Size::Length(m) = size else {
-        return size;
-    };
-    Size::Length(padded_length(m, f))
+    let m = band_length(n, f)?;
+    Ok(padded_length(m, f))
 }

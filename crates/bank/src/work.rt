@@ -14,6 +14,7 @@ pub fn zeros<R: Real>() -> [R; 64]
 }
 
 // The taps in an array, zeros behind them.
+#[tactic(auto, using(numbers::specs::Places::placed_front))]
 pub fn held<R: Real>(taps: &[R]) -> [R; 64]
     requires { length taps.now ≤ 64 }
     ensures { R.floats result ≡ written (at (R.floats taps.now)) (length taps.now) zeros }

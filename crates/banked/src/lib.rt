@@ -3,9 +3,9 @@
 // The other way has the same taps exchanged, so that an entry which read its pair would give other numbers.
 #![tactic(auto)]
 
-use analysis::{Analysis, analyse};
+use analysis::analyse;
 use bank::making::two_pairs;
-use synthesis::{Synthesis, synthesise};
+use synthesis::synthesise;
 use telling::borders::border_of;
 
 // 0 is done.
@@ -22,15 +22,13 @@ pub extern "C" fn banked_analyse(
 ) -> u64 {
     let made = two_pairs(low, high, high, low, border_of(border));
     let held = made.bank;
-    let first = analyse(held, line, approx, detail, scratch);
-    let Analysis::Done = first else {
+    let Ok(()) = analyse(held, line, approx, detail, scratch) else {
         return 1;
     };
     if !twice {
         return 0;
     }
-    let second = analyse(held, line, approx, detail, scratch);
-    let Analysis::Done = second else {
+    let Ok(()) = analyse(held, line, approx, detail, scratch) else {
         return 1;
     };
     0
@@ -48,15 +46,13 @@ pub extern "C" fn banked_synthesise(
 ) -> u64 {
     let made = two_pairs(high, low, low, high, border_of(border));
     let held = made.bank;
-    let first = synthesise(held, approx, detail, out);
-    let Synthesis::Done = first else {
+    let Ok(()) = synthesise(held, approx, detail, out) else {
         return 1;
     };
     if !twice {
         return 0;
     }
-    let second = synthesise(held, approx, detail, out);
-    let Synthesis::Done = second else {
+    let Ok(()) = synthesise(held, approx, detail, out) else {
         return 1;
     };
     0

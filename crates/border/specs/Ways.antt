@@ -20,7 +20,7 @@ use Rattle.border.specs.Rule.{number_of, Sample, nearest, modulo, turned, folded
 use Rattle.border.specs.Reach.{along, period_of, laps_of, Lapped, Goes, Long, Walkable, Paddable, Fillable, filled, lap_at}
 use Rattle.border.specs.Rules.{modulo_low, turned_low, past_in, source_past}
 use Rattle.border.specs.Mirrors.{mirror_in, mirror101_reflect101}
-use Rattle.border.specs.Pads.{fill_reach, fill_right, ends}
+use Rattle.border.specs.Pads.{fill_left, fill_reach, fill_right, ends}
 
 -- ---- how each border goes on beyond n samples
 module _ (n : ℕ) (some : 0 < n) (few : n ≤ longest) where
@@ -188,6 +188,11 @@ pub both_sides : {b : Border} {n left right : ℕ} (x : List Float) {y z : List 
 both_sides {b} {n} {left} {right} x {y} p room first second =
     let long : length y ≡ length x = ap length first ∙ length-placed (λ k. padded plus_zero b (take n (drop left x)) left (0 + k)) 0 left x (omega arith) in
     second (fill_right (length y) p (omega (arith, room, long))) ∙ ap (filled b left n (left + n) right) first ∙ ends b n left right x p room
+
+pub sides : {b : Border} {n left right : ℕ} (x : List Float) {y z : List Float} → Paddable b n left right → left + n + right ≤ length x
+    → (Fillable b n (length x) left 0 left → y ≡ filled b left n 0 left x) → (Fillable b n (length y) left (left + n) right → z ≡ filled b left n (left + n) right y)
+    → z ≡ written (padded plus_zero b (take n (drop left x)) left) (left + n + right) x
+sides x p room first = both_sides x p room (first (fill_left (length x) p room))
 
 -- neither side: the line itself
 pub no_sides : {b : Border} {n left right : ℕ} (x : List Float) → Paddable b n left right → left + n + right ≤ length x → left + right ≡ 0

@@ -1,11 +1,13 @@
 -- Comparing two bands: which place is the first that differs, the answers with their numbers, and what the entry promises. Definitions only.
-use Rattle.std.specs.Prelude.{◌≡◌, Bool, true, false, cond, not, ◌||◌, List, [], ◌∷◌, ℕ, zero, suc, ◌+◌, ◌*◌, ◌/◌, ◌%◌, ◌<◌, ltb, eqb, length, Float}
+use Rattle.std.specs.Prelude.{◌≡◌, Bool, true, false, cond, not, ◌||◌, List, [], ◌∷◌, ℕ, zero, suc, ◌+◌, ◌*◌, ◌/◌, ◌%◌, ◌<◌, ltb, eqb, length, ⊤, Result, Ok, Err, Float}
 use Rattle.std.specs.Float.Ieee.{is_nan, to_bits}
 use Rattle.std.specs.Float.{binary64}
-use Rattle.numbers.specs.Words.{at, when_done}
+use Rattle.numbers.specs.Words.{at}
 use Rattle.tables.specs.Tables.{too_large}
 use Rattle.comparing.specs.declared.Compared.{Compared}
-use Rattle.comparing.specs.declared.Compared.TheVariants.{Equal, Differs, ZeroedBaseSize, InputSize, Limit}
+use Rattle.comparing.specs.declared.Compared.TheVariants.{Equal, Differs}
+use Rattle.comparing.specs.declared.ComparingError.{ComparingError}
+use Rattle.comparing.specs.declared.ComparingError.TheVariants.{ZeroedBaseSize, InputSize, Limit}
 
 -- the bits of two floats differ; a NaN is a NaN
 abbrev pub differs : Float → Float → Bool
@@ -37,34 +39,36 @@ pub record FirstAt (first second : List Float) (w h c r : ℕ) : Type 0 where
   pub earlier : Agree first second (c * h + r)
 
 -- the number of an answer, and the values that it carries (RULES, Numbers)
-abbrev pub number_of : Compared → ℕ
-number_of Equal = 0
-number_of (Differs column row) = 0
-number_of ZeroedBaseSize = 7
-number_of (InputSize need have) = 10
-number_of Limit = 11
+abbrev pub number_of : {A : Type 0} → Result A ComparingError → ℕ
+number_of (Ok found) = 0
+number_of (Err ZeroedBaseSize) = 7
+number_of (Err (InputSize need have)) = 10
+number_of (Err Limit) = 11
 
-abbrev pub values_of : Compared → List ℕ
-values_of Equal = []
-values_of (Differs column row) = column ∷ row ∷ []
-values_of ZeroedBaseSize = []
-values_of (InputSize need have) = need ∷ have ∷ []
-values_of Limit = []
+abbrev pub values_of : Result Compared ComparingError → List ℕ
+values_of (Ok Equal) = []
+values_of (Ok (Differs column row)) = column ∷ row ∷ []
+values_of (Err ZeroedBaseSize) = []
+values_of (Err (InputSize need have)) = need ∷ have ∷ []
+values_of (Err Limit) = []
 
--- the first test that fails, of w columns of h and bands of a and b; equal where none does
-unfoldable pub tests_of : ℕ → ℕ → ℕ → ℕ → Compared
+-- the first test that fails, of w columns of h and bands of a and b; done where none does
+unfoldable pub tests_of : ℕ → ℕ → ℕ → ℕ → Result ⊤ ComparingError
 tests_of w h a b =
-    cond (eqb w 0 || eqb h 0) ZeroedBaseSize
-    (cond (too_large w h) Limit
-    (cond (not (eqb a (w * h))) (InputSize (w * h) a)
-    (cond (not (eqb b (w * h))) (InputSize (w * h) b)
-    Equal)))
+    cond (eqb w 0 || eqb h 0) (Err ZeroedBaseSize)
+    (cond (too_large w h) (Err Limit)
+    (cond (not (eqb a (w * h))) (Err (InputSize (w * h) a))
+    (cond (not (eqb b (w * h))) (Err (InputSize (w * h) b))
+    (Ok tt))))
+
+-- what is found, or the refusal of the tests before it
+abbrev pub found_by : Result ⊤ ComparingError → Compared → Result Compared ComparingError
+found_by (Ok done) found = Ok found
+found_by (Err refusal) found = Err refusal
 
 -- where no test fails, what is found
-abbrev pub answer_of : List Float → List Float → ℕ → ℕ → Compared
-answer_of first second w h =
-    let tests = tests_of w h (length first) (length second) in
-    when_done (number_of tests) (found_in first second w h) tests
+abbrev pub answer_of : List Float → List Float → ℕ → ℕ → Result Compared ComparingError
+answer_of first second w h = found_by (tests_of w h (length first) (length second)) (found_in first second w h)
 
-pub record BandsCompared (first second : List Float) (width height : ℕ) (r : Compared) : Type 0 where
+pub record BandsCompared (first second : List Float) (width height : ℕ) (r : Result Compared ComparingError) : Type 0 where
   pub answer : r ≡ answer_of first second width height

@@ -1,5 +1,5 @@
 -- Laws of the first place that differs: the answer names a place just where that place differs and every earlier one agrees, and says equal just where every place agrees.
-use Rattle.std.specs.Prelude.{◌≡◌, Bool, true, false, cond, List, ℕ, zero, suc, ◌+◌, ◌*◌, ◌/◌, ◌%◌, ◌<◌, ltb, length, Float}
+use Rattle.std.specs.Prelude.{◌≡◌, Bool, true, false, cond, List, ℕ, zero, suc, ◌+◌, ◌*◌, ◌/◌, ◌%◌, ◌<◌, ltb, length, Ok, Float}
 use Rattle.std.proofs.Math.Path.{refl}
 use Rattle.std.proofs.Common.{sym, ap, ◌∙◌, div-add-mod', div-lt_iff_lt-mul, mod-lt, arith}
 use borrow.Author.Tests.{lt-ltb, le-ltb, ltb-true, ltb-false}
@@ -94,16 +94,16 @@ module _ (first second : List Float) (w h : ℕ) where
       is_first (first_of p (w * h)) (first_least p (w * h)) (first_passes p (w * h)) _ c r refl e
 
   -- ---- what the entry answers
-  pub equal_agree : BandsCompared first second w h Equal → Agree first second (w * h)
-  equal_agree p = none_found (found first second w h Equal refl p).1
+  pub equal_agree : BandsCompared first second w h (Ok Equal) → Agree first second (w * h)
+  equal_agree p = none_found (found first second w h Equal p).1
 
-  pub differs_first : {c r : ℕ} → BandsCompared first second w h (Differs c r) → FirstAt first second w h c r
-  differs_first {c} {r} p = first_found (found first second w h (Differs c r) refl p).1
+  pub differs_first : {c r : ℕ} → BandsCompared first second w h (Ok (Differs c r)) → FirstAt first second w h c r
+  differs_first {c} {r} p = first_found (found first second w h (Differs c r) p).1
 
   -- and back, where every test passes
-  module _ (pass : tests_of w h (length first) (length second) ≡ Equal) where
-    pub agree_equal : Agree first second (w * h) → BandsCompared first second w h Equal
+  module _ (pass : tests_of w h (length first) (length second) ≡ Ok tt) where
+    pub agree_equal : Agree first second (w * h) → BandsCompared first second w h (Ok Equal)
     agree_equal e = compared first second w h Equal pass (sym (found_none e))
 
-    pub first_differs : {c r : ℕ} → FirstAt first second w h c r → BandsCompared first second w h (Differs c r)
+    pub first_differs : {c r : ℕ} → FirstAt first second w h c r → BandsCompared first second w h (Ok (Differs c r))
     first_differs {c} {r} p = compared first second w h (Differs c r) pass (sym (found_first p))

@@ -1,9 +1,8 @@
 -- Laws of the tests: where an answer is done every test passed, which gives the work what it asks for; and then what the work leaves is what is promised.
-use Rattle.std.specs.Prelude.{◌≡◌, refl, ◌+◌, ◌<◌, ◌≤◌, suc, zero, ℕ, eqb, leb, ltb, nat_abs, ℤ, false, not, List, Float, length, take}
+use Rattle.std.specs.Prelude.{◌≡◌, refl, ◌+◌, ◌<◌, ◌≤◌, suc, zero, ℕ, eqb, leb, ltb, nat_abs, ℤ, false, not, List, Float, length, take, Ok}
 use Rattle.std.proofs.Common.{sym, ap, subst, ◌∙◌, eqb-true, eq-eqb, lt-ltb, ltb-false, ne_eqb, lit<, arith}
 use Rattle.std.specs.Float.{Format}
 use Rattle.border.specs.declared.Border.{Border}
-use Rattle.convolution.specs.declared.Convolution.TheVariants.{Done}
 use Rattle.convolution.specs.Convolutions.{number_of, answer_of, Convolved}
 use Rattle.border.specs.Rule.{padded}
 use Rattle.border.specs.Reach.{Paddable}
@@ -29,7 +28,7 @@ pub some_taps : (n : ℕ) → eqb n 0 ≡ false → 0 < n
 some_taps zero e = absurd (eqb-false 0 0 e refl)
 some_taps (suc n) e = omega arith
 
-pub convolving : (b : Border) (n o f : ℕ) (c : ℤ) (s : ℕ) → (f ≡ 0 → ⊥) → answer_of b n o f c s ≡ Done → Convolving b n o f c s
+pub convolving : (b : Border) (n o f : ℕ) (c : ℤ) (s : ℕ) → (f ≡ 0 → ⊥) → answer_of b n o f c s ≡ Ok tt → Convolving b n o f c s
 unfolding answer_of
 convolving b n o f c s h e =
     let p1 = passed number_of (beyond n f c) e (lit< tt) refl in
@@ -50,7 +49,7 @@ convolving b n o f c s h e =
     }
 
 -- any kernel: the output is as long as the line
-pub copying : (b : Border) (n o f : ℕ) (c : ℤ) (s : ℕ) → answer_of b n o f c s ≡ Done → o ≡ n
+pub copying : (b : Border) (n o f : ℕ) (c : ℤ) (s : ℕ) → answer_of b n o f c s ≡ Ok tt → o ≡ n
 unfolding answer_of
 copying b n o f c s e =
     let p1 = passed number_of (beyond n f c) e (lit< tt) refl in
@@ -77,13 +76,13 @@ pub summing : {b : Border} {n o f : ℕ} {c : ℤ} {s left right long : ℕ} →
 summing {f = f} {c} p el er e = record { some = p.kernel.some; within = omega (arith, p.both, wide f c) }
 
 -- the answer for a line, its buffers and a centre that go by other names
-answered : (b : Border) {n o f s n' o' f' s' : ℕ} {z c : ℤ} → n' ≡ n → o' ≡ o → f' ≡ f → s' ≡ s → z ≡ c → Done ≡ answer_of b n o f z s → answer_of b n' o' f' c s' ≡ Done
+answered : (b : Border) {n o f s n' o' f' s' : ℕ} {z c : ℤ} → n' ≡ n → o' ≡ o → f' ≡ f → s' ≡ s → z ≡ c → Ok tt ≡ answer_of b n o f z s → answer_of b n' o' f' c s' ≡ Ok tt
 answered b en eo ef es ez e = cc
 
 -- done: an empty kernel left a copy, and any other the padded line and its sums
 module _ {w : Format} {b : Border} {line out scratch kernel : List Float} {c z : ℤ} {n o f s : ℕ}
-    (en : length line ≡ n) (eo : length out ≡ o) (ef : length kernel ≡ f) (es : length scratch ≡ s) (ez : z ≡ c) (e : Done ≡ answer_of b n o f z s) where
-  pub copied_done : {out' : List Float} → f ≡ 0 → out' ≡ placed (at line) 0 n out → Convolved w b line out scratch kernel c Done out' scratch
+    (en : length line ≡ n) (eo : length out ≡ o) (ef : length kernel ≡ f) (es : length scratch ≡ s) (ez : z ≡ c) (e : Ok tt ≡ answer_of b n o f z s) where
+  pub copied_done : {out' : List Float} → f ≡ 0 → out' ≡ placed (at line) 0 n out → Convolved w b line out scratch kernel c (Ok tt) out' scratch
   copied_done none h =
       let told = answered b en eo ef es ez e in
       let zero = eq-eqb (length kernel) 0 (ef ∙ none) in
@@ -95,7 +94,7 @@ module _ {w : Format} {b : Border} {line out scratch kernel : List Float} {c z :
 
   pub convolved_done : {left right : ℕ} {out' scratch' : List Float} → (f ≡ 0 → ⊥) → left ≡ left_pad f z → right ≡ right_pad f z
       → scratch' ≡ written (padded plus_zero b line left) (left + n + right) scratch → out' ≡ tab (place_of w kernel (take (left + n + right) scratch')) o
-      → Convolved w b line out scratch kernel c Done out' scratch'
+      → Convolved w b line out scratch kernel c (Ok tt) out' scratch'
   convolved_done {left} {right} {scratch' = scratch'} some el er hs ho =
       let told = answered b en eo ef es ez e in
       let d = convolving b (length line) (length out) (length kernel) c (length scratch) (λ q. some (sym ef ∙ q)) told in

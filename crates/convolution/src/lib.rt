@@ -18,9 +18,9 @@ use border::rule::Place;
 use numbers::copying::copy_to;
 use numbers::real::Real;
 
-#[derive(Drop)]
-pub enum Convolution {
-    Done,
+// Why a line is not convolved.
+#[derive(Clone, Copy, Debug, PartialEq, Eq)]
+pub enum ConvolutionError {
     InOutSizesMismatch { line: usize, out: usize },
     ZeroedBaseSize,
     ScratchSize { need: usize, have: usize },
@@ -38,37 +38,37 @@ pub fn convolution_answer(
     f: usize,
     centre: Place,
     scratch: usize,
-) -> Convolution
+) -> Result<(), ConvolutionError>
     ensures { result ≡ answer_of border line out f (centre_of centre) scratch }
 {
     if beyond(line, f, centre) {
-        return Convolution::Limit;
+        return Err(ConvolutionError::Limit);
     }
     if line != out {
-        return Convolution::InOutSizesMismatch { line, out };
+        return Err(ConvolutionError::InOutSizesMismatch { line, out });
     }
     if line == 0 {
-        return Convolution::ZeroedBaseSize;
+        return Err(ConvolutionError::ZeroedBaseSize);
     }
     if f == 0 {
-        return Convolution::Done;
+        return Ok(());
     }
     let Pads { left, right } = from_filter(f, centre);
     let need = line + left + right;
     if scratch < need {
-        return Convolution::ScratchSize {
+        return Err(ConvolutionError::ScratchSize {
             need,
             have: scratch,
-        };
+        });
     }
     let size = size(centre);
     if f <= size {
-        return Convolution::MisconfiguredFilterCenter { size, f };
+        return Err(ConvolutionError::MisconfiguredFilterCenter { size, f });
     }
     if too_far(border, line, left, right) {
-        return Convolution::Reflect101Pad;
+        return Err(ConvolutionError::Reflect101Pad);
     }
-    Convolution::Done
+    Ok(())
 }
 
 // The convolution of a line, by way of the padded line at the front of the scratch; an empty kernel copies.
@@ -80,24 +80,21 @@ pub fn convolve<R: Real>(
     scratch: &mut [R],
     kernel: &[R],
     centre: i64,
-) -> Convolution
+) -> Result<(), ConvolutionError>
     ensures { Convolved R.format border (R.floats line.now) (R.floats out.old) (R.floats scratch.old) (R.floats kernel.now) centre
         result (R.floats out.new) (R.floats scratch.new) }
 {
     let n = line.len();
     let f = kernel.len();
     let place = split(centre);
-    let answer = convolution_answer(border, n, out.len(), f, place, scratch.len());
-    let Convolution::Done = answer else {
-        return answer;
-    };
+    convolution_answer(border, n, out.len(), f, place, scratch.len())?;
     if f == 0 {
         copy_to(line, out, 0);
-        return Convolution::Done;
+        return Ok(());
     }
     let Pads { left, right } = from_filter(f, place);
     let need = left + n + right;
     pad(border, line, left, right, scratch);
     sums(kernel, &scratch[..need], out);
-    Convolution::Done
+    Ok(())
 }

@@ -7,9 +7,9 @@ use crate::reach::from_filter;
 use border::rule::Place;
 use numbers::LONGEST;
 
-#[derive(Drop)]
-pub enum Scratch {
-    Length(usize),
+// Why no length is given.
+#[derive(Clone, Copy, Debug, PartialEq, Eq)]
+pub enum ScratchError {
     ZeroedBaseSize,
     Limit,
 }
@@ -36,19 +36,19 @@ pub fn beyond(n: usize, f: usize, centre: Place) -> bool
 
 // How much scratch convolution of n samples with f taps about a centre needs: none for an empty kernel.
 #[tactic(auto, using(crate::specs::Tested::kernel_of, crate::specs::Places::nears, crate::specs::Places::within))]
-pub fn convolution_scratch(n: usize, f: usize, centre: i64) -> Scratch
+pub fn convolution_scratch(n: usize, f: usize, centre: i64) -> Result<usize, ScratchError>
     ensures { ScratchSized n f centre result }
 {
     let place = split(centre);
     if beyond(n, f, place) {
-        return Scratch::Limit;
+        return Err(ScratchError::Limit);
     }
     if n == 0 {
-        return Scratch::ZeroedBaseSize;
+        return Err(ScratchError::ZeroedBaseSize);
     }
     if f == 0 {
-        return Scratch::Length(0);
+        return Ok(0);
     }
     let p = from_filter(f, place);
-    Scratch::Length(n + p.left + p.right)
+    Ok(n + p.left + p.right)
 }

@@ -1,5 +1,5 @@
 // The sums of convolution over a padded line: sizes have been tested.
-ghost use Rattle.std.specs.Prelude.{◌≡◌, ◌+◌, ◌≤◌, length};
+ghost use Rattle.std.specs.Prelude.{◌≡◌, ◌+◌, ◌<◌, ◌≤◌, length};
 ghost use Rattle.numbers.specs.Words.{replaced, tab};
 ghost use Rattle.convolution.specs.Works.{product, more, place_of, Summing, Summed};
 
@@ -38,67 +38,40 @@ fn block<R: Real>(kernel: &[R], padded: &[R], x: usize, sums: &mut [R], out: &mu
     copy_to(sums, out, x);
 }
 
-// Sixteen places a turn, from the front, while more than eight are left; the answer is how many are done. The last sixteen may end where the
-// output does and lap over those before: they write the same numbers there. An output of fewer than sixteen is left as it is.
-#[tactic(auto, using(crate::specs::Turns::summed_none))]
-fn sixteens<R: Real>(kernel: &[R], padded: &[R], out: &mut [R]) -> usize
-    requires { Summing (length kernel.now) (length padded.now) (length out.old) }
-    ensures { (result ≤ length out.old) × Summed R.format (R.floats kernel.now) (R.floats padded.now) result (R.floats out.new) }
+// N places a turn, from `from` on, while more than LEFT are left; the answer is how many are done. The last N may end where the output does
+// and lap over those before: they write the same numbers there. An output of fewer than N is left as it is. Those before `from` are done.
+fn blocks<R: Real, const N: usize, const LEFT: usize>(
+    kernel: &[R],
+    padded: &[R],
+    out: &mut [R],
+    from: usize,
+) -> usize
+    requires { Summing (length kernel.now) (length padded.now) (length out.old) × (from ≤ length out.old) × Summed R.format (R.floats kernel.now) (R.floats padded.now) from (R.floats out.old) × (LEFT < N) × (N ≤ 16) }
+    ensures { (result ≤ length out.old) × (length out.old < result + N) × Summed R.format (R.floats kernel.now) (R.floats padded.now) result (R.floats out.new) }
 {
     let n = out.len();
-    if n < 16 {
-        return 0;
-    }
-    let last = n - 16;
-    let mut x = 0;
-    // No `for`: x goes by sixteens, the last time by fewer.
-    while x < n - 8 {
-        let at = x.min(last);
-        let mut sums = [R::zero(); 16];
-        block(kernel, padded, at, &mut sums, out);
-        x = at + 16;
-    }
-    x
-}
-
-// Four places a turn in the same way, from `from` on, while more than one is left. Those before are done.
-fn fours<R: Real>(kernel: &[R], padded: &[R], out: &mut [R], from: usize) -> usize
-    requires { Summing (length kernel.now) (length padded.now) (length out.old) × (from ≤ length out.old) × Summed R.format (R.floats kernel.now) (R.floats padded.now) from (R.floats out.old) }
-    ensures { (result ≤ length out.old) × Summed R.format (R.floats kernel.now) (R.floats padded.now) result (R.floats out.new) }
-{
-    let n = out.len();
-    if n < 4 {
+    if n < N {
         return from;
     }
-    let last = n - 4;
+    let last = n - N;
     let mut x = from;
-    // No `for`: x goes by fours, the last time by fewer.
-    while x < n - 1 {
+    // No `for`: x goes by N, the last time by fewer.
+    while x < n - LEFT {
         let at = x.min(last);
-        let mut sums = [R::zero(); 4];
+        let mut sums = [R::zero(); N];
         block(kernel, padded, at, &mut sums, out);
-        x = at + 4;
+        x = at + N;
     }
     x
-}
-
-// One place a turn, from `from` on. Those before are done.
-fn rest<R: Real>(kernel: &[R], padded: &[R], out: &mut [R], from: usize)
-    requires { Summing (length kernel.now) (length padded.now) (length out.old) × (from ≤ length out.old) × Summed R.format (R.floats kernel.now) (R.floats padded.now) from (R.floats out.old) }
-    ensures { R.floats out.new ≡ tab (place_of R.format (R.floats kernel.now) (R.floats padded.now)) (length out.old) }
-{
-    for x in from..out.len() {
-        let mut sums = [R::zero(); 1];
-        block(kernel, padded, x, &mut sums, out);
-    }
 }
 
 // Every place.
+#[tactic(auto, using(crate::specs::Turns::summed_none))]
 pub fn sums<R: Real>(kernel: &[R], padded: &[R], out: &mut [R])
     requires { Summing (length kernel.now) (length padded.now) (length out.old) }
     ensures { R.floats out.new ≡ tab (place_of R.format (R.floats kernel.now) (R.floats padded.now)) (length out.old) }
 {
-    let x = sixteens(kernel, padded, out);
-    let y = fours(kernel, padded, out, x);
-    rest(kernel, padded, out, y);
+    let x = blocks::<R, 16, 8>(kernel, padded, out, 0);
+    let y = blocks::<R, 4, 1>(kernel, padded, out, x);
+    blocks::<R, 1, 0>(kernel, padded, out, y);
 }

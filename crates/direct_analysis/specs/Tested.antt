@@ -1,11 +1,11 @@
 -- Laws of the tests: with room for any padded line the first engine's tests are these, 5 is never answered, and done is answered where every test passed, and nowhere else, which gives the work what it asks for.
-use Rattle.std.specs.Prelude.{◌≡◌, refl, Bool, true, false, not, ℕ, ◌*◌, ◌≤◌, ltb, eqb}
+use Rattle.std.specs.Prelude.{◌≡◌, refl, Bool, true, false, not, ℕ, ◌*◌, ◌≤◌, ltb, eqb, Result, ⊤, Ok, Err}
 use Rattle.std.proofs.Common.{sym, ap, ◌∙◌, arith, ltb-false, le-ltb}
 use Rattle.numbers.specs.Words.{longest}
 use Rattle.bank.specs.Lengths.{bad_taps, pairs, padded_length, GoodTaps, Lent, Analysable}
 use Rattle.bank.specs.Tested.{good_taps}
-use Rattle.analysis.specs.declared.Analysis.{Analysis}
-use Rattle.analysis.specs.declared.Analysis.TheVariants.{Done, MinFilterSize, ApproxDetailsSize, ScratchSize, Limit, Taps}
+use Rattle.analysis.specs.declared.AnalysisError.{AnalysisError}
+use Rattle.analysis.specs.declared.AnalysisError.TheVariants.{MinFilterSize, ApproxDetailsSize, ScratchSize, Limit, Taps}
 use Rattle.analysis.specs.Analyses as First
 use Rattle.analysis.specs.Analyses.{number_of}
 use Rattle.analysis.specs.Tested as FirstTested
@@ -40,7 +40,7 @@ as_first f n a d s other = go (bad_taps f) refl (ltb longest n) refl (ltb n f) r
     go false e false eq false er true ex y ey t et = simp (e, eq, er, ex)
     go false e false eq false er false ex true ey t et = simp (e, eq, er, ex, ey)
     go false e false eq false er false ex false ey true et =
-        let five : First.answer_of f n a d s ≡ ScratchSize (padded_length n f) s = simp (e, eq, er, ex, ey, et) in
+        let five : First.answer_of f n a d s ≡ Err (ScratchSize (padded_length n f) s) = simp (e, eq, er, ex, ey, et) in
         absurd (other (ap number_of five))
     go false e false eq false er false ex false ey false et = fits f n a d s (ltb-false s (padded_length n f) et)
 
@@ -49,24 +49,24 @@ pub never_5 : (f n a d : ℕ) → number_of (answer_of f n a d) ≡ 5 → ⊥
 unfolding First.answer_of
 never_5 f n a d e = go (bad_taps f) refl (ltb longest n) refl (ltb n f) refl (not (eqb a (pairs n f))) refl (not (eqb d (pairs n f))) refl
   where
-    is : {r : Analysis} → answer_of f n a d ≡ r → number_of r ≡ 5
+    is : {r : Result ⊤ AnalysisError} → answer_of f n a d ≡ r → number_of r ≡ 5
     is q = ap number_of (sym q) ∙ e
 
     go : (p : Bool) → bad_taps f ≡ p → (q : Bool) → ltb longest n ≡ q → (r : Bool) → ltb n f ≡ r → (x : Bool) → not (eqb a (pairs n f)) ≡ x → (y : Bool) → not (eqb d (pairs n f)) ≡ y → ⊥
-    go true ep q eq r er x ex y ey = let z : answer_of f n a d ≡ Taps = simp ep in absurd (omega (arith, is z))
-    go false ep true eq r er x ex y ey = let z : answer_of f n a d ≡ Limit = simp (ep, eq) in absurd (omega (arith, is z))
-    go false ep false eq true er x ex y ey = let z : answer_of f n a d ≡ MinFilterSize n f = simp (ep, eq, er) in absurd (omega (arith, is z))
-    go false ep false eq false er true ex y ey = let z : answer_of f n a d ≡ ApproxDetailsSize a = simp (ep, eq, er, ex) in absurd (omega (arith, is z))
-    go false ep false eq false er false ex true ey = let z : answer_of f n a d ≡ ApproxDetailsSize d = simp (ep, eq, er, ex, ey) in absurd (omega (arith, is z))
+    go true ep q eq r er x ex y ey = let z : answer_of f n a d ≡ Err Taps = simp ep in absurd (omega (arith, is z))
+    go false ep true eq r er x ex y ey = let z : answer_of f n a d ≡ Err Limit = simp (ep, eq) in absurd (omega (arith, is z))
+    go false ep false eq true er x ex y ey = let z : answer_of f n a d ≡ Err (MinFilterSize n f) = simp (ep, eq, er) in absurd (omega (arith, is z))
+    go false ep false eq false er true ex y ey = let z : answer_of f n a d ≡ Err (ApproxDetailsSize a) = simp (ep, eq, er, ex) in absurd (omega (arith, is z))
+    go false ep false eq false er false ex true ey = let z : answer_of f n a d ≡ Err (ApproxDetailsSize d) = simp (ep, eq, er, ex, ey) in absurd (omega (arith, is z))
     go false ep false eq false er false ex false ey =
-        let z : answer_of f n a d ≡ Done = simp (ep, eq, er, ex, ey, le-ltb (padded_length n f) (padded_length n f) (omega arith)) in absurd (omega (arith, is z))
+        let z : answer_of f n a d ≡ Ok tt = simp (ep, eq, er, ex, ey, le-ltb (padded_length n f) (padded_length n f) (omega arith)) in absurd (omega (arith, is z))
 
 -- where every test passed
-pub passed_taps : (f n a d : ℕ) → answer_of f n a d ≡ Done → GoodTaps f
+pub passed_taps : (f n a d : ℕ) → answer_of f n a d ≡ Ok tt → GoodTaps f
 passed_taps f n a d e = (FirstTested.analysing f n a d (padded_length n f) e).ready.taps
 
-pub direct : (f l h n a d : ℕ) → Lent f l h → answer_of f n a d ≡ Done → Direct f l h n a d
+pub direct : (f l h n a d : ℕ) → Lent f l h → answer_of f n a d ≡ Ok tt → Direct f l h n a d
 direct f l h n a d lent e = let p = FirstTested.analysing f n a d (padded_length n f) e in record { lent = lent; ready = p.ready; approxed = p.approxed; detailed = p.detailed }
 
-pub analysed_done : (f n a d : ℕ) → Analysable n f → a ≡ pairs n f → d ≡ pairs n f → answer_of f n a d ≡ Done
+pub analysed_done : (f n a d : ℕ) → Analysable n f → a ≡ pairs n f → d ≡ pairs n f → answer_of f n a d ≡ Ok tt
 analysed_done f n a d ready ea ed = FirstTested.analysed_done f n a d (padded_length n f) (record { ready = ready; approxed = ea; detailed = ed; room = omega arith })

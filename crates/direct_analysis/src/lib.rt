@@ -11,7 +11,7 @@ ghost use Rattle.std.specs.Prelude.{◌≡◌};
 ghost use Rattle.std.specs.Float.{binary64};
 ghost use Rattle.direct_analysis.specs.Analyses.{answer_of, Analysed};
 
-use analysis::{Analysis, analysis_answer};
+use analysis::{AnalysisError, analysis_answer};
 use bank::Bank;
 use numbers::LONGEST;
 
@@ -20,14 +20,19 @@ const ROOM: usize = 2 * LONGEST;
 
 // The tests, on lengths alone: those of the first engine without 5.
 #[tactic(auto, using(crate::specs::Tested::roomy))]
-pub fn direct_answer(f: usize, n: usize, approx: usize, detail: usize) -> Analysis
+pub fn direct_answer(f: usize, n: usize, approx: usize, detail: usize) -> Result<(), AnalysisError>
     ensures { result ≡ answer_of f n approx detail }
 {
     analysis_answer(f, n, approx, detail, ROOM)
 }
 
 // Both bands of a line.
-pub fn analyse(bank: Bank, line: &[f64], approx: &mut [f64], detail: &mut [f64]) -> Analysis
+pub fn analyse(
+    bank: Bank,
+    line: &[f64],
+    approx: &mut [f64],
+    detail: &mut [f64],
+) -> Result<(), AnalysisError>
     ensures { Analysed binary64 bank.low bank.high bank.taps bank.border line.now approx.old detail.old
         result approx.new detail.new }
 {

@@ -6,7 +6,7 @@ ghost use Rattle.direct_analysis.specs.Analyses.{Analysed};
 
 use crate::direct_answer;
 use crate::work::bands;
-use analysis::Analysis;
+use analysis::AnalysisError;
 use border::Border;
 
 // Both bands of a line.
@@ -18,15 +18,12 @@ pub fn analyse<'a>(
     line: &[f64],
     approx: &mut [f64],
     detail: &mut [f64],
-) -> Analysis
+) -> Result<(), AnalysisError>
     requires { Counted f (length low.now) (length high.now) }
     ensures { Analysed binary64 low.now high.now f border line.now approx.old detail.old
         result approx.new detail.new }
 {
-    let answer = direct_answer(f, line.len(), approx.len(), detail.len());
-    let Analysis::Done = answer else {
-        return answer;
-    };
+    direct_answer(f, line.len(), approx.len(), detail.len())?;
     bands(low, high, f, border, line, approx, detail);
-    Analysis::Done
+    Ok(())
 }

@@ -9,10 +9,15 @@ ghost use Rattle.std.specs.Float.{binary64};
 ghost use Rattle.synthesis.specs.Syntheses.{Synthesised};
 
 use bank::Bank;
-use synthesis::Synthesis;
+use synthesis::SynthesisError;
 
 // Both bands joined onto what the output held.
-pub fn synthesise(bank: Bank, approx: &[f64], detail: &[f64], out: &mut [f64]) -> Synthesis
+pub fn synthesise(
+    bank: Bank,
+    approx: &[f64],
+    detail: &[f64],
+    out: &mut [f64],
+) -> Result<(), SynthesisError>
     ensures { Synthesised binary64 bank.lowback bank.highback bank.taps approx.now detail.now out.old result out.new }
 {
     let f = bank.taps;

@@ -5,7 +5,7 @@ ghost use Rattle.bank.specs.Lengths.{Counted};
 ghost use Rattle.synthesis.specs.Syntheses.{Synthesised};
 
 use crate::work::gather_all;
-use synthesis::{Synthesis, synthesis_answer};
+use synthesis::{SynthesisError, synthesis_answer};
 
 // Both bands joined onto what the output held.
 pub fn synthesise<'a>(
@@ -15,14 +15,11 @@ pub fn synthesise<'a>(
     approx: &[f64],
     detail: &[f64],
     out: &mut [f64],
-) -> Synthesis
+) -> Result<(), SynthesisError>
     requires { Counted f (length low.now) (length high.now) }
     ensures { Synthesised binary64 low.now high.now f approx.now detail.now out.old result out.new }
 {
-    let answer = synthesis_answer(f, approx.len(), detail.len(), out.len());
-    let Synthesis::Done = answer else {
-        return answer;
-    };
+    synthesis_answer(f, approx.len(), detail.len(), out.len())?;
     gather_all(low, high, f, approx, detail, out);
-    Synthesis::Done
+    Ok(())
 }

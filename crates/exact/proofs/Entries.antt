@@ -1,25 +1,23 @@
 -- Laws of what the two entries promise, one after the other: a line's bands are joined, and where the output was cleared and the premises of either statement hold, the line is restored exactly (`entries_restore`, `entries_restore_pairs`).
-use Rattle.std.specs.Prelude.{◌≡◌, List, ℕ, length, ℤ, Float}
+use Rattle.std.specs.Prelude.{◌≡◌, List, ℕ, length, ℤ, Result, ⊤, Ok, Float}
 use Rattle.std.proofs.Common.{ap, ◌∙◌, subst, sym, arith}
 use Rattle.std.specs.Float.{Format}
 use Rattle.numbers.specs.Tests.{renewed}
 use Rattle.border.specs.declared.Border.{Border}
 use Rattle.bank.specs.Lengths.{pairs, line_length}
-use Rattle.analysis.specs.declared.Analysis.{Analysis}
-use Rattle.analysis.specs.declared.Analysis.TheVariants as analysis
+use Rattle.analysis.specs.declared.AnalysisError.{AnalysisError}
 use Rattle.analysis.specs.Analyses as Analyses
 use Rattle.analysis.specs.Lines.{band}
 use Rattle.analysis.specs.Taps.{length-band}
-use Rattle.synthesis.specs.declared.Synthesis.{Synthesis}
-use Rattle.synthesis.specs.declared.Synthesis.TheVariants as synthesis
+use Rattle.synthesis.specs.declared.SynthesisError.{SynthesisError}
 use Rattle.synthesis.specs.Syntheses as Syntheses
 use Rattle.synthesis.specs.Tested.{joinable}
 use Rattle.exact.specs.Restoring.{squares, Premises, PairPremises, Cleared, there_and_back, Restored}
 use Rattle.exact.proofs.Four.{pairs_exact}
 use Rattle.exact.proofs.Exact.{exact}
 
-module _ {w : Format} {low high : List Float} {F : ℕ} {b : Border} {line approx detail scratch : List Float} {there : Analysis} {a d s : List Float}
-    (p : Analyses.Analysed w low high F b line approx detail scratch there a d s) (went : there ≡ analysis.Done) where
+module _ {w : Format} {low high : List Float} {F : ℕ} {b : Border} {line approx detail scratch : List Float} {there : Result ⊤ AnalysisError} {a d s : List Float}
+    (p : Analyses.Analysed w low high F b line approx detail scratch there a d s) (went : there ≡ Ok tt) where
   pub approxed : a ≡ band w low F b line
   approxed = renewed _ _ (ap Analyses.number_of went) p.approxes
 
@@ -32,7 +30,7 @@ module _ {w : Format} {low high : List Float} {F : ℕ} {b : Border} {line appro
   pub detail_length : length d ≡ pairs (length line) F
   detail_length = ap length detailed ∙ length-band w high F b line
 
-  module _ {sl sh out : List Float} {back : Synthesis} {o : List Float} (q : Syntheses.Synthesised w sl sh F a d out back o) (came : back ≡ synthesis.Done) where
+  module _ {sl sh out : List Float} {back : Result ⊤ SynthesisError} {o : List Float} (q : Syntheses.Synthesised w sl sh F a d out back o) (came : back ≡ Ok tt) where
     pub rejoined : o ≡ there_and_back w F low high sl sh b line out
     rejoined = renewed _ _ (ap Syntheses.number_of came) q.joined ∙ rw (approxed, detailed)
 

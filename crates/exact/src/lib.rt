@@ -2,25 +2,42 @@
 #![tactic(auto)]
 
 ghost use Rattle.std.specs.Prelude.{◌≡◌};
+ghost use Rattle.exact.specs.declared.BackError.TheVariants.{Analysis, Synthesis};
 ghost use Rattle.exact.specs.Backs.{answer_of, Returned};
 
 use analysis::lists::analyse;
-use analysis::{Analysis, analysis_answer};
+use analysis::{AnalysisError, analysis_answer};
 use bank::Bank;
 use numbers::real::Real;
 use synthesis::lists::synthesise;
 use synthesis::work::clear;
-use synthesis::{Synthesis, synthesis_answer};
+use synthesis::{SynthesisError, synthesis_answer};
 
-// Done, or which way was refused and how.
-#[derive(Drop)]
-pub enum Back {
-    Done,
-    Analysis(Analysis),
-    Synthesis(Synthesis),
+// Which way was refused, and how.
+#[derive(Clone, Copy, Debug, PartialEq, Eq)]
+pub enum BackError {
+    Analysis(AnalysisError),
+    Synthesis(SynthesisError),
+}
+
+impl From<AnalysisError> for BackError {
+    ghost from_gives = { λ e r. r ≡ Analysis e };
+
+    fn from(e: AnalysisError) -> BackError {
+        BackError::Analysis(e)
+    }
+}
+
+impl From<SynthesisError> for BackError {
+    ghost from_gives = { λ e r. r ≡ Synthesis e };
+
+    fn from(e: SynthesisError) -> BackError {
+        BackError::Synthesis(e)
+    }
 }
 
 // The tests, on lengths alone: those of the way there, then those of the way back.
+#[tactic(auto, using(crate::proofs::Calls::there_refused, crate::proofs::Calls::back_refused, crate::proofs::Calls::both_done))]
 pub fn back_answer(
     f: usize,
     n: usize,
@@ -28,18 +45,12 @@ pub fn back_answer(
     detail: usize,
     scratch: usize,
     out: usize,
-) -> Back
+) -> Result<(), BackError>
     ensures { result ≡ answer_of f n approx detail scratch out }
 {
-    let there = analysis_answer(f, n, approx, detail, scratch);
-    let Analysis::Done = there else {
-        return Back::Analysis(there);
-    };
-    let back = synthesis_answer(f, approx, detail, out);
-    let Synthesis::Done = back else {
-        return Back::Synthesis(back);
-    };
-    Back::Done
+    analysis_answer(f, n, approx, detail, scratch)?;
+    synthesis_answer(f, approx, detail, out)?;
+    Ok(())
 }
 
 // Both ways, one after the other, by the lists of one bank: each entry would copy its pair once more.
@@ -50,29 +61,26 @@ pub fn there_and_back<R: Real>(
     detail: &mut [R],
     scratch: &mut [R],
     out: &mut [R],
-) -> Back
+) -> Result<(), BackError>
     ensures { Returned R.format (R.floats bank.low) (R.floats bank.high) (R.floats bank.lowback) (R.floats bank.highback) bank.taps bank.border (R.floats line.now) (R.floats approx.old) (R.floats detail.old) (R.floats scratch.old) (R.floats out.old)
         result (R.floats approx.new) (R.floats detail.new) (R.floats scratch.new) (R.floats out.new) }
 {
-    let answer = back_answer(
+    back_answer(
         bank.taps,
         line.len(),
         approx.len(),
         detail.len(),
         scratch.len(),
         out.len(),
-    );
-    let Back::Done = answer else {
-        return answer;
-    };
+    )?;
     let f = bank.taps;
     let border = bank.border;
     let low = &bank.low;
     let high = &bank.high;
-    analyse(low, high, f, border, line, approx, detail, scratch);
+    analyse(low, high, f, border, line, approx, detail, scratch)?;
     clear(out);
     let lowback = &bank.lowback;
     let highback = &bank.highback;
-    synthesise(lowback, highback, f, approx, detail, out);
-    Back::Done
+    synthesise(lowback, highback, f, approx, detail, out)?;
+    Ok(())
 }

@@ -2,19 +2,35 @@
 #![tactic(auto)]
 
 ghost use Rattle.std.specs.Prelude.{◌≡◌};
+ghost use Rattle.exact_levels.specs.declared.LevelsBackError.TheVariants.{Analysis, Restoring};
 ghost use Rattle.exact_levels.specs.Backs.{answer_of, ThereAndBack};
 
 use bank::Bank;
 use levels::{analyse_levels, levels_answer};
-use packed::Levels;
-use restoring::divided::{Divided, divided_answer, restore_divided};
+use packed::LevelsError;
+use restoring::divided::{DividedError, divided_answer, restore_divided};
 
-// Done, or which way was refused and how.
-#[derive(Drop)]
-pub enum LevelsBack {
-    Done,
-    Analysis(Levels),
-    Restoring(Divided),
+// Which way was refused, and how.
+#[derive(Clone, Copy, Debug, PartialEq, Eq)]
+pub enum LevelsBackError {
+    Analysis(LevelsError),
+    Restoring(DividedError),
+}
+
+impl From<LevelsError> for LevelsBackError {
+    ghost from_gives = { λ e r. r ≡ Analysis e };
+
+    fn from(e: LevelsError) -> LevelsBackError {
+        LevelsBackError::Analysis(e)
+    }
+}
+
+impl From<DividedError> for LevelsBackError {
+    ghost from_gives = { λ e r. r ≡ Restoring e };
+
+    fn from(e: DividedError) -> LevelsBackError {
+        LevelsBackError::Restoring(e)
+    }
 }
 
 // The tests: those of the way there, then those of the way back.
@@ -28,18 +44,12 @@ pub fn levels_back_answer(
     scratch: usize,
     first: usize,
     second: usize,
-) -> LevelsBack
+) -> Result<(), LevelsBackError>
     ensures { result ≡ answer_of n f s levels packed scratch first second }
 {
-    let there = levels_answer(n, f, levels, packed, scratch);
-    let Levels::Done = there else {
-        return LevelsBack::Analysis(there);
-    };
-    let back = divided_answer(n, f, s, levels, packed, first, second);
-    let Divided::Done = back else {
-        return LevelsBack::Restoring(back);
-    };
-    LevelsBack::Done
+    levels_answer(n, f, levels, packed, scratch)?;
+    divided_answer(n, f, s, levels, packed, first, second)?;
+    Ok(())
 }
 
 // Both ways, one entry after the other.
@@ -52,12 +62,12 @@ pub fn there_and_back_levels(
     scratch: &mut [f64],
     first: &mut [f64],
     second: &mut [f64],
-) -> LevelsBack
+) -> Result<(), LevelsBackError>
     ensures { ThereAndBack bank.low bank.high bank.lowback bank.highback bank.taps bank.border s line.now levels packed.old scratch.old first.old second.old
         result packed.new scratch.new first.new second.new }
 {
     let n = line.len();
-    let answer = levels_back_answer(
+    levels_back_answer(
         n,
         bank.taps,
         s,
@@ -66,11 +76,8 @@ pub fn there_and_back_levels(
         scratch.len(),
         first.len(),
         second.len(),
-    );
-    let LevelsBack::Done = answer else {
-        return answer;
-    };
-    analyse_levels(bank, line, levels, packed, scratch);
-    restore_divided(bank, s, packed, n, levels, first, second);
-    LevelsBack::Done
+    )?;
+    analyse_levels(bank, line, levels, packed, scratch)?;
+    restore_divided(bank, s, packed, n, levels, first, second)?;
+    Ok(())
 }

@@ -1,12 +1,12 @@
 // There and back in one call, which is exact: 50 times the line, and for an odd line 50 times the border's next sample behind it.
 use crate::{banks, show};
 use border::Border;
-use exact::{Back, there_and_back};
-use synthesis::Synthesis;
+use exact::{BackError, there_and_back};
+use synthesis::SynthesisError;
 
-fn told(refusal: Synthesis) {
+fn told(refusal: SynthesisError) {
     match refusal {
-        Synthesis::OutputSizeIsNotValid { have, need } => {
+        SynthesisError::OutputSizeIsNotValid { have, need } => {
             show::number(b"refused 4, have", have);
             show::number(b"need", need);
         }
@@ -14,11 +14,11 @@ fn told(refusal: Synthesis) {
     }
 }
 
-fn shown(answer: Back, out: &[f64]) {
+fn shown(answer: Result<(), BackError>, out: &[f64]) {
     match answer {
-        Back::Done => show::word(b"there and back"),
-        Back::Analysis(_) => show::word(b"refused on the way there"),
-        Back::Synthesis(refusal) => told(refusal),
+        Ok(()) => show::word(b"there and back"),
+        Err(BackError::Analysis(_)) => show::word(b"refused on the way there"),
+        Err(BackError::Synthesis(refusal)) => told(refusal),
     }
     show::floats(b"out", out);
 }

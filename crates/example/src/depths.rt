@@ -5,7 +5,6 @@ use bank::making::bank;
 use border::Border;
 use level_parts::{Reading, level_details, read_place};
 use levels::analyse_levels;
-use packed::Levels;
 use restoring::restored_line;
 
 fn two(tap: f64) -> Bank {
@@ -39,7 +38,7 @@ pub fn parts() {
     let mut scratch = [0.0f64; 12];
     let line = [10.0, 20.0, 30.0, 40.0, 60.0];
     let answer = analyse_levels(two(1.0), &line, 2, &mut packed, &mut scratch);
-    let Levels::Done = answer else {
+    let Ok(()) = answer else {
         return;
     };
     parts_of(&packed);
@@ -58,7 +57,7 @@ fn back(levels: usize, packed: &mut [f64]) {
     let line = [3.0, -1.0, 4.0, -1.0, 5.0];
     let mut scratch = [0.0f64; 12];
     let answer = analyse_levels(two(0.5), &line, levels, packed, &mut scratch);
-    let Levels::Done = answer else {
+    let Ok(()) = answer else {
         return;
     };
     joined(packed, levels, &mut [7.0f64; 6], &mut [8.0f64; 8]);

@@ -1,9 +1,9 @@
 -- Levels, for C: what each entry promises, told. Definitions only.
 -- Taps stand in the caller's own lists, and their count is that of both.
-use Rattle.std.specs.Prelude.{◌≡◌, cond, List, [], ◌∷◌, ℕ, ◌%◌, eqb, length, Float}
+use Rattle.std.specs.Prelude.{◌≡◌, cond, List, [], ◌∷◌, ℕ, ◌%◌, eqb, length, Result, ⊤, Float}
 use Rattle.numbers.specs.Words.{when_done}
 use Rattle.bank.specs.Banks.{taps_of}
-use Rattle.packed.specs.declared.Levels.{Levels}
+use Rattle.packed.specs.declared.LevelsError.{LevelsError}
 use Rattle.packed.specs.Lengths.{levels_of, restoring_length}
 use Rattle.packed.specs.Answers.{number_of, values_of}
 use Rattle.level_sizes.specs.Sizes.{size_number, size_values, PackedSized, ScratchSized, RestoringSized, MostSized, part_number, part_values, PartSized}
@@ -46,7 +46,7 @@ abbrev pub holder : ℕ → ℕ
 holder levels = cond (eqb (levels_of levels % 2) 0) 2 1
 
 -- which and how long the line is are carried where restoring is done
-abbrev pub values_back : ℕ → ℕ → ℕ → Levels → List ℕ
+abbrev pub values_back : ℕ → ℕ → ℕ → Result ⊤ LevelsError → List ℕ
 values_back n f levels a = when_done (number_of a) (holder levels ∷ restoring_length n f ∷ []) (values_of a)
 
 abbrev pub RestoringTold : List Float → List Float → List Float → ℕ → ℕ → List Float → List Float → List ℕ → ℕ → List Float → List Float → List ℕ → Type 0

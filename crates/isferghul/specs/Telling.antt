@@ -1,18 +1,18 @@
 -- Laws of telling, beside those that hold for any answer: what restoring carries, with division or without, and a centre by another name.
-use Rattle.std.specs.Prelude.{◌≡◌, refl, List, [], ◌∷◌, ℕ, ℤ, Float}
+use Rattle.std.specs.Prelude.{◌≡◌, refl, List, [], ◌∷◌, ℕ, Result, Ok, Err, ⊤, ℤ, Float}
 use Rattle.std.proofs.Common.{sym, ap, ◌∙◌, subst, arith}
 use Rattle.std.specs.Float.{Format}
 use Rattle.numbers.specs.Words.{when_done}
 use Rattle.numbers.specs.Tests.{kept}
 use Rattle.border.specs.declared.Border.{Border}
-use Rattle.convolution.specs.declared.Convolution.{Convolution}
+use Rattle.convolution.specs.declared.ConvolutionError.{ConvolutionError}
 use Rattle.convolution.specs.Convolutions.{Convolved}
-use Rattle.packed.specs.declared.Levels.{Levels}
+use Rattle.packed.specs.declared.LevelsError.{LevelsError}
 use Rattle.packed.specs.Lengths.{restoring_length}
 use Rattle.packed.specs.Answers.{number_of, values_of}
 use Rattle.packed.specs.Tested.{done_alone}
-use Rattle.restoring.specs.declared.divided.Divided.{Divided}
-use Rattle.restoring.specs.declared.divided.Divided.TheVariants.{Done, Divisor, Refused}
+use Rattle.restoring.specs.declared.divided.DividedError.{DividedError}
+use Rattle.restoring.specs.declared.divided.DividedError.TheVariants.{Divisor, Refused}
 use Rattle.restoring.specs.Dividings as Dividings
 use Rattle.telling.specs.Told.{Told, carried_from}
 use Rattle.telling.specs.Telling.{retold}
@@ -32,11 +32,11 @@ module _ {A : Type 0} (number : A → ℕ) (values : A → List ℕ) (bare : (a 
       retold (sym zero) (sym (ap (λ (j : ℕ). when_done j (holder levels ∷ restoring_length n f ∷ []) (values a)) zero)) (record { given = u.given; carried = (cc) })
 
 -- where the number is 0 neither kind of restoring carries anything
-pub levels_bare : (a : Levels) → number_of a ≡ 0 → values_of a ≡ []
+pub levels_bare : (a : Result ⊤ LevelsError) → number_of a ≡ 0 → values_of a ≡ []
 levels_bare a z = ap values_of (done_alone a z)
 
 -- restoring that is refused carries what its answer does; done, the buffer's number and the length
-module _ (n f levels : ℕ) (a : Levels) {number : ℕ} {words words' : List ℕ} (t : Told (number_of a) (values_of a) words number words') where
+module _ (n f levels : ℕ) (a : Result ⊤ LevelsError) {number : ℕ} {words words' : List ℕ} (t : Told (number_of a) (values_of a) words number words') where
   pub back_refused : (number ≡ 0 → ⊥) → Told (number_of a) (values_back n f levels a) words number words'
   back_refused h = back_refused_from number_of values_of levels_bare n f levels a t h
 
@@ -44,12 +44,12 @@ module _ (n f levels : ℕ) (a : Levels) {number : ℕ} {words words' : List ℕ
       → Told (number_of a) (values_back n f levels a) words r words''
   back_done z ew em u = back_done_from number_of values_of levels_bare n f levels a t z ew em u
 
-pub divided_bare : (a : Divided) → Dividings.number_of a ≡ 0 → Dividings.values_of a ≡ []
-divided_bare Done z = refl
-divided_bare Divisor z = refl
-divided_bare (Refused a) z = levels_bare a z
+pub divided_bare : (a : Result ⊤ DividedError) → Dividings.number_of a ≡ 0 → Dividings.values_of a ≡ []
+divided_bare (Ok done) z = refl
+divided_bare (Err Divisor) z = refl
+divided_bare (Err (Refused e)) z = levels_bare (Err e) z
 
 -- what is promised of a centre is promised by any name of it
-pub centred : {w : Format} {b : Border} {line out scratch kernel : List Float} {c c' : ℤ} {a : Convolution} {o s : List Float} → c' ≡ c
+pub centred : {w : Format} {b : Border} {line out scratch kernel : List Float} {c c' : ℤ} {a : Result ⊤ ConvolutionError} {o s : List Float} → c' ≡ c
     → Convolved w b line out scratch kernel c' a o s → Convolved w b line out scratch kernel c a o s
 centred {w} {b} {line} {out} {scratch} {kernel} {a = a} {o} {s} e p = subst (λ (z : ℤ). Convolved w b line out scratch kernel z a o s) e p

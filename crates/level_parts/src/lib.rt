@@ -5,37 +5,33 @@ ghost use Rattle.std.specs.Prelude.{◌≡◌};
 ghost use Rattle.level_parts.specs.Parts.{handing_of, HandedOut, Read};
 
 use packed::depth::part_of;
-use packed::{Levels, packed_answer};
+use packed::{LevelsError, PartError, packed_answer};
 
-#[derive(Drop)]
-pub enum Handing {
-    Done,
-    NoSuchLevel(usize),
-    Refused(Levels),
-}
-
-// A float, or why there is none.
-#[derive(Drop)]
+// A float, or why there is none: an enum (RULES, Forms).
+#[derive(Clone, Copy)]
 pub enum Reading {
     Value(f64),
     NoSuchLevel(usize),
     NoSuchPlace(usize),
-    Refused(Levels),
+    Refused(LevelsError),
 }
 
 // Whether a level's part is handed out.
 #[tactic(auto, unfolding(crate::specs::Parts::handing_of))]
-pub fn handing_answer(n: usize, f: usize, levels: usize, packed: usize, level: usize) -> Handing
+pub fn handing_answer(
+    n: usize,
+    f: usize,
+    levels: usize,
+    packed: usize,
+    level: usize,
+) -> Result<(), PartError>
     ensures { result ≡ handing_of n f levels packed level }
 {
-    let answer = packed_answer(n, f, levels, packed);
-    let Levels::Done = answer else {
-        return Handing::Refused(answer);
-    };
+    packed_answer(n, f, levels, packed)?;
     if levels.max(1) < level {
-        return Handing::NoSuchLevel(level);
+        return Err(PartError::NoSuchLevel(level));
     }
-    Handing::Done
+    Ok(())
 }
 
 // A level's details, as that part of the packed buffer itself; the empty part where `handing_answer` refuses.
@@ -49,7 +45,7 @@ pub fn level_details<'a>(
 ) -> &'a [f64]
     ensures { HandedOut n f levels level packed.entry result }
 {
-    let Handing::Done = handing_answer(n, f, levels, packed.len(), level) else {
+    let Ok(()) = handing_answer(n, f, levels, packed.len(), level) else {
         return &packed[0..0];
     };
     let part = part_of(n, f, levels, level);
@@ -70,10 +66,9 @@ pub fn read_place(
 ) -> Reading
     ensures { Read n f levels level place packed.now result }
 {
-    let answer = packed_answer(n, f, levels, packed.len());
-    let Levels::Done = answer else {
-        return Reading::Refused(answer);
-    };
+    if let Err(e) = packed_answer(n, f, levels, packed.len()) {
+        return Reading::Refused(e);
+    }
     if levels.max(1) < level {
         return Reading::NoSuchLevel(level);
     }

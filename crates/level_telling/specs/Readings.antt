@@ -10,7 +10,7 @@ abbrev pub value_from : Reading → List Float → List Float
 value_from (Value x) value = set value 0 x
 value_from (NoSuchLevel level) value = value
 value_from (NoSuchPlace place) value = value
-value_from (Refused a) value = value
+value_from (Refused e) value = value
 
 -- a reading, told
 pub record ReadingTold (a : Reading) (value : List Float) (words : List ℕ) (r : ℕ) (value' : List Float) (words' : List ℕ) : Type 0 where

@@ -6,51 +6,51 @@ ghost use Rattle.telling.specs.Told.{Told};
 ghost use Rattle.level_telling.specs.Readings.{ReadingTold};
 
 use level_parts::Reading;
-use level_sizes::{LevelPart, LevelSize};
-use packed::Levels;
-use restoring::divided::Divided;
+use packed::depth::Part;
+use packed::{LevelsError, PartError};
+use restoring::divided::DividedError;
 use telling::told::{one, two};
 
-pub fn levels(answer: Levels, carried: &mut [usize; 2]) -> u64
+pub fn levels(answer: Result<(), LevelsError>, carried: &mut [usize; 2]) -> u64
     ensures { Told (Answers.number_of answer) (Answers.values_of answer) carried.old result carried.new }
 {
     match answer {
-        Levels::Done => 0,
-        Levels::MinFilterSize { n, f } => two(1, n, f, carried),
-        Levels::ScratchSize { need, have } => two(5, need, have, carried),
-        Levels::BufferWasTooSmallForLevel => 9,
-        Levels::InputSize { need, have } => two(10, need, have, carried),
-        Levels::Limit => 11,
-        Levels::Taps => 12,
+        Ok(()) => 0,
+        Err(LevelsError::MinFilterSize { n, f }) => two(1, n, f, carried),
+        Err(LevelsError::ScratchSize { need, have }) => two(5, need, have, carried),
+        Err(LevelsError::BufferWasTooSmallForLevel) => 9,
+        Err(LevelsError::InputSize { need, have }) => two(10, need, have, carried),
+        Err(LevelsError::Limit) => 11,
+        Err(LevelsError::Taps) => 12,
     }
 }
 
-pub fn divided(answer: Divided, carried: &mut [usize; 2]) -> u64
+pub fn divided(answer: Result<(), DividedError>, carried: &mut [usize; 2]) -> u64
     ensures { Told (Dividings.number_of answer) (Dividings.values_of answer) carried.old result carried.new }
 {
     match answer {
-        Divided::Done => 0,
-        Divided::Divisor => 25,
-        Divided::Refused(a) => levels(a, carried),
+        Ok(()) => 0,
+        Err(DividedError::Divisor) => 25,
+        Err(DividedError::Refused(e)) => levels(Err(e), carried),
     }
 }
 
-pub fn level_size(answer: LevelSize, carried: &mut [usize; 2]) -> u64
+pub fn level_size(answer: Result<usize, LevelsError>, carried: &mut [usize; 2]) -> u64
     ensures { Told (Sizes.size_number answer) (Sizes.size_values answer) carried.old result carried.new }
 {
     match answer {
-        LevelSize::Length(l) => one(0, l, carried),
-        LevelSize::Refused(a) => levels(a, carried),
+        Ok(l) => one(0, l, carried),
+        Err(e) => levels(Err(e), carried),
     }
 }
 
-pub fn level_part(answer: LevelPart, carried: &mut [usize; 2]) -> u64
+pub fn level_part(answer: Result<Part, PartError>, carried: &mut [usize; 2]) -> u64
     ensures { Told (Sizes.part_number answer) (Sizes.part_values answer) carried.old result carried.new }
 {
     match answer {
-        LevelPart::Part { start, count } => two(0, start, count, carried),
-        LevelPart::NoSuchLevel(level) => one(22, level, carried),
-        LevelPart::Refused(a) => levels(a, carried),
+        Ok(part) => two(0, part.start, part.count, carried),
+        Err(PartError::NoSuchLevel(level)) => one(22, level, carried),
+        Err(PartError::Refused(e)) => levels(Err(e), carried),
     }
 }
 
@@ -65,6 +65,6 @@ pub fn reading(answer: Reading, value: &mut [f64; 1], carried: &mut [usize; 2]) 
         }
         Reading::NoSuchLevel(level) => one(22, level, carried),
         Reading::NoSuchPlace(place) => one(23, place, carried),
-        Reading::Refused(a) => levels(a, carried),
+        Reading::Refused(e) => levels(Err(e), carried),
     }
 }

@@ -9,25 +9,28 @@ ghost use Rattle.levels.specs.Analyses.{answer_of, Analysed};
 
 use bank::Bank;
 use packed::depth::scratch_need;
-use packed::{Levels, packed_answer};
+use packed::{LevelsError, packed_answer};
 
 // The tests, on lengths alone.
 #[tactic(auto, unfolding(crate::specs::Analyses::answer_of))]
-pub fn levels_answer(n: usize, f: usize, levels: usize, packed: usize, scratch: usize) -> Levels
+pub fn levels_answer(
+    n: usize,
+    f: usize,
+    levels: usize,
+    packed: usize,
+    scratch: usize,
+) -> Result<(), LevelsError>
     ensures { result ≡ answer_of n f levels packed scratch }
 {
-    let answer = packed_answer(n, f, levels, packed);
-    let Levels::Done = answer else {
-        return answer;
-    };
+    packed_answer(n, f, levels, packed)?;
     let need = scratch_need(n, f);
     if scratch < need {
-        return Levels::ScratchSize {
+        return Err(LevelsError::ScratchSize {
             need,
             have: scratch,
-        };
+        });
     }
-    Levels::Done
+    Ok(())
 }
 
 // A line over levels, into the packed buffer.
@@ -37,7 +40,7 @@ pub fn analyse_levels(
     levels: usize,
     packed: &mut [f64],
     scratch: &mut [f64],
-) -> Levels
+) -> Result<(), LevelsError>
     ensures { Analysed bank.low bank.high bank.taps bank.border line.now levels packed.old scratch.old result packed.new scratch.new }
 {
     let f = bank.taps;

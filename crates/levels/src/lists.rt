@@ -6,7 +6,7 @@ ghost use Rattle.levels.specs.Analyses.{Analysed};
 use crate::levels_answer;
 use crate::work::split;
 use border::Border;
-use packed::Levels;
+use packed::LevelsError;
 
 // A line over levels, into the packed buffer.
 pub fn analyse_levels<'a>(
@@ -18,15 +18,12 @@ pub fn analyse_levels<'a>(
     levels: usize,
     packed: &mut [f64],
     scratch: &mut [f64],
-) -> Levels
+) -> Result<(), LevelsError>
     requires { Counted f (length low.now) (length high.now) }
     ensures { Analysed low.now high.now f border line.now levels packed.old scratch.old
         result packed.new scratch.new }
 {
-    let answer = levels_answer(line.len(), f, levels, packed.len(), scratch.len());
-    let Levels::Done = answer else {
-        return answer;
-    };
+    levels_answer(line.len(), f, levels, packed.len(), scratch.len())?;
     split(low, high, f, border, line, levels.max(1), packed, scratch);
-    Levels::Done
+    Ok(())
 }

@@ -1,40 +1,44 @@
 -- Laws of the tests: an answer is done where every test passed, which gives the work what it asks for; tests that follow others speak where those are done; and what going down a line finds tells whether each level has one to split.
-use Rattle.std.specs.Prelude.{◌≡◌, refl, Bool, true, false, cond, not, ℕ, zero, suc, ◌-◌, ◌≤◌, ◌<◌, eqb, ltb}
-use Rattle.std.proofs.Common.{sym, ap, ◌∙◌, subst, arith, eqb-true, ltb-false, lit<}
+use Rattle.std.specs.Prelude.{◌≡◌, refl, Bool, true, false, cond, not, ℕ, zero, suc, ◌-◌, ◌≤◌, ◌<◌, eqb, ltb, Result, Ok, Err, is_ok, ⊤}
+use Rattle.std.proofs.Common.{sym, ap, ◌∙◌, subst, arith, eqb-true, ltb-false, lit<, true≢false}
 use Rattle.std.proofs.Math.Decide.{dec_lt}
 use Rattle.std.proofs.lemmas.Bool.{not-false}
 use Rattle.numbers.specs.Words.{longest, when_done, and_then}
 use Rattle.numbers.specs.Tests.{passed, stopped_by, went_on_by, both_done_by}
 use Rattle.bank.specs.Lengths.{bad_taps, pairs, Sound, Analysable}
 use Rattle.bank.specs.Tested.{good_taps}
-use Rattle.packed.specs.declared.Levels.{Levels}
-use Rattle.packed.specs.declared.Levels.TheVariants.{Done, MinFilterSize, ScratchSize, BufferWasTooSmallForLevel, InputSize, Limit, Taps}
+use Rattle.packed.specs.declared.LevelsError.{LevelsError}
+use Rattle.packed.specs.declared.LevelsError.TheVariants.{MinFilterSize, ScratchSize, BufferWasTooSmallForLevel, InputSize, Limit, Taps}
 use Rattle.packed.specs.declared.depth.Depth.{Depth}
 use Rattle.packed.specs.Lengths.{levels_of, line_after, too_short, details_to, packed_length, level_start, level_count, most_levels}
 use Rattle.packed.specs.Answers.{number_of, asked_of, held_of}
 use Rattle.packed.specs.Works.{Split, Named, Filled, Down}
 use Rattle.packed.specs.Falls.{line_none, long_before, all_before, short_at, fallen, most_levels_lem}
 
+-- a refusal is not done
+pub not_ok : {A E : Type 0} {x : A} {e : E} → Err e ≡ Ok x → ⊥
+not_ok e = true≢false (sym (ap is_ok e))
+
 -- 0 is the number of done alone
-pub done_alone : (r : Levels) → number_of r ≡ 0 → r ≡ Done
-done_alone Done e = refl
-done_alone (MinFilterSize n f) e = absurd (omega arith)
-done_alone (ScratchSize need have) e = absurd (omega arith)
-done_alone BufferWasTooSmallForLevel e = absurd (omega arith)
-done_alone (InputSize need have) e = absurd (omega arith)
-done_alone Limit e = absurd (omega arith)
-done_alone Taps e = absurd (omega arith)
+pub done_alone : (r : Result ⊤ LevelsError) → number_of r ≡ 0 → r ≡ Ok tt
+done_alone (Ok done) e = refl
+done_alone (Err (MinFilterSize n f)) e = absurd (omega arith)
+done_alone (Err (ScratchSize need have)) e = absurd (omega arith)
+done_alone (Err BufferWasTooSmallForLevel) e = absurd (omega arith)
+done_alone (Err (InputSize need have)) e = absurd (omega arith)
+done_alone (Err Limit) e = absurd (omega arith)
+done_alone (Err Taps) e = absurd (omega arith)
 
 -- both tests are done where the second is after the first
-pub both_done : (a b : Levels) → and_then number_of a b ≡ Done → (a ≡ Done) × (b ≡ Done)
+pub both_done : (a b : Result ⊤ LevelsError) → and_then number_of a b ≡ Ok tt → (a ≡ Ok tt) × (b ≡ Ok tt)
 both_done = both_done_by number_of done_alone refl
 
 -- 1 and 9 are refusals
-short_refused : (n f : ℕ) (t : Bool) → 0 < number_of (cond t BufferWasTooSmallForLevel (MinFilterSize n f))
+short_refused : (n f : ℕ) (t : Bool) → 0 < number_of (cond t (Err BufferWasTooSmallForLevel) (Err (MinFilterSize n f)))
 short_refused n f true = lit< tt
 short_refused n f false = lit< tt
 
-pub asked_done : (n f levels : ℕ) → asked_of n f levels ≡ Done → Split n f levels
+pub asked_done : (n f levels : ℕ) → asked_of n f levels ≡ Ok tt → Split n f levels
 unfolding asked_of
 asked_done n f levels e =
     let p1 = passed number_of (bad_taps f) e (lit< tt) refl in
@@ -50,7 +54,7 @@ first_line {n} {f} s = record {
   enough = omega (arith, (long_before n f 0 _ s.long (omega arith)).1, line_none n f);
 }
 
-pub held_done : (n f levels p : ℕ) → held_of n f levels p ≡ Done → Split n f levels × (p ≡ packed_length n f levels)
+pub held_done : (n f levels p : ℕ) → held_of n f levels p ≡ Ok tt → Split n f levels × (p ≡ packed_length n f levels)
 unfolding held_of
 held_done n f levels p e =
     let q = both_done (asked_of n f levels) _ e in
@@ -58,10 +62,10 @@ held_done n f levels p e =
     (asked_done n f levels q.0, eqb-true p (packed_length n f levels) (not-false _ t.0))
 
 -- ---- what follows tests by another name of their answer: their refusal, or where they are done what comes then
-pub stopped : {A : Type 0} {x : Levels} (a : Levels) (new : A) (old : Levels → A) → a ≡ x → (a ≡ Done → ⊥) → old a ≡ when_done (number_of x) new (old x)
+pub stopped : {A : Type 0} {x : Result ⊤ LevelsError} (a : Result ⊤ LevelsError) (new : A) (old : Result ⊤ LevelsError → A) → a ≡ x → (a ≡ Ok tt → ⊥) → old a ≡ when_done (number_of x) new (old x)
 stopped = stopped_by number_of done_alone
 
-pub went_on : {A : Type 0} {x : Levels} {y : A} (new old : A) → x ≡ Done → y ≡ new → y ≡ when_done (number_of x) new old
+pub went_on : {A : Type 0} {x : Result ⊤ LevelsError} {y : A} (new old : A) → x ≡ Ok tt → y ≡ new → y ≡ when_done (number_of x) new old
 went_on = went_on_by number_of refl
 
 -- ---- what going down finds
@@ -106,7 +110,7 @@ level_part n f levels (suc k) r p h d =
 
 -- ---- what the work of analysis and of restoring is given
 -- k is the number of levels by another name
-pub filled : (n f levels k p : ℕ) → k ≡ levels_of levels → held_of n f levels p ≡ Done → Filled n f k p
+pub filled : (n f levels k p : ℕ) → k ≡ levels_of levels → held_of n f levels p ≡ Ok tt → Filled n f k p
 filled n f levels k p z e =
     let d = held_done n f levels p e in
     rw z (record { sound = d.0.sound; some = omega arith; long = d.0.long; filled = d.1 })

@@ -4,15 +4,16 @@
 pub mod depth;
 
 ghost use Rattle.std.specs.Prelude.{◌≡◌};
+ghost use Rattle.packed.specs.declared.PartError.TheVariants as part;
 ghost use Rattle.packed.specs.Answers.{asked_of, held_of};
 
 use crate::depth::{down, packed_need};
 use bank::sizes::bad_taps;
 use numbers::LONGEST;
 
-#[derive(Drop)]
-pub enum Levels {
-    Done,
+// Why levels are refused.
+#[derive(Clone, Copy, Debug, PartialEq, Eq)]
+pub enum LevelsError {
     MinFilterSize { n: usize, f: usize },
     ScratchSize { need: usize, have: usize },
     BufferWasTooSmallForLevel,
@@ -21,39 +22,51 @@ pub enum Levels {
     Taps,
 }
 
+// Why there is no part of a level; 22 carries the level.
+#[derive(Clone, Copy, Debug, PartialEq, Eq)]
+pub enum PartError {
+    NoSuchLevel(usize),
+    Refused(LevelsError),
+}
+
+impl From<LevelsError> for PartError {
+    ghost from_gives = { λ e r. r ≡ part.Refused e };
+
+    fn from(e: LevelsError) -> PartError {
+        PartError::Refused(e)
+    }
+}
+
 // Whether each level that is asked for has a line to split.
 #[tactic(auto, using(crate::specs::Tested::not_all), unfolding(crate::specs::Answers::asked_of))]
-pub fn asked_answer(n: usize, f: usize, levels: usize) -> Levels
+pub fn asked_answer(n: usize, f: usize, levels: usize) -> Result<(), LevelsError>
     ensures { result ≡ asked_of n f levels }
 {
     if bad_taps(f) {
-        return Levels::Taps;
+        return Err(LevelsError::Taps);
     }
     if LONGEST < n {
-        return Levels::Limit;
+        return Err(LevelsError::Limit);
     }
     let asked = levels.max(1);
     if down(n, f, asked).levels == asked {
-        return Levels::Done;
+        return Ok(());
     }
     if 1 < levels {
-        return Levels::BufferWasTooSmallForLevel;
+        return Err(LevelsError::BufferWasTooSmallForLevel);
     }
-    Levels::MinFilterSize { n, f }
+    Err(LevelsError::MinFilterSize { n, f })
 }
 
 // The same, and then whether the packed buffer has its length.
 #[tactic(auto, unfolding(crate::specs::Answers::held_of))]
-pub fn packed_answer(n: usize, f: usize, levels: usize, packed: usize) -> Levels
+pub fn packed_answer(n: usize, f: usize, levels: usize, packed: usize) -> Result<(), LevelsError>
     ensures { result ≡ held_of n f levels packed }
 {
-    let answer = asked_answer(n, f, levels);
-    let Levels::Done = answer else {
-        return answer;
-    };
+    asked_answer(n, f, levels)?;
     let need = packed_need(n, f, levels);
     if packed != need {
-        return Levels::InputSize { need, have: packed };
+        return Err(LevelsError::InputSize { need, have: packed });
     }
-    Levels::Done
+    Ok(())
 }

@@ -1,12 +1,11 @@
 -- Laws of the tests and of the whole: an answer is done where every test passed, which gives each part of the work what it asks for, and the parts together are the four bands.
-use Rattle.std.specs.Prelude.{◌≡◌, refl, ℕ, ◌+◌, ◌*◌, ◌≤◌, ltb, length, drop, Float, List}
+use Rattle.std.specs.Prelude.{◌≡◌, refl, ℕ, ◌+◌, ◌*◌, ◌≤◌, ltb, length, drop, Ok, Float, List}
 use Rattle.std.proofs.Common.{ap, sym, ◌∙◌, mul_comm, arith, ltb-false, lit<}
 use Rattle.std.specs.Float.{Format}
 use Rattle.numbers.specs.Tests.{passed}
 use Rattle.numbers.specs.Places.{drop_further}
 use Rattle.border.specs.declared.Border.{Border}
 use Rattle.bank.specs.Lengths.{pairs, padded_length}
-use Rattle.planes.specs.declared.Planes.TheVariants.{Done}
 use Rattle.planes.specs.Lengths.{band_length, plane_scratch}
 use Rattle.planes.specs.Answers.{number_of, held_of}
 use Rattle.planes.specs.Tested.{both_done, held_done, bands_done}
@@ -17,7 +16,7 @@ use Rattle.plane_analysis.specs.Analyses.{answer_of}
 use Rattle.plane_analysis.specs.Works.{line_bands, Rowing, Rowed, Columning, Still, Analysing, Split}
 use Rattle.plane_analysis.specs.Steps.{area_halves, low_bands, high_bands}
 
-pub analysing : (w h f p s ll lh hl hh : ℕ) → answer_of w h f p s ll lh hl hh ≡ Done → Analysing w h f p s ll lh hl hh
+pub analysing : (w h f p s ll lh hl hh : ℕ) → answer_of w h f p s ll lh hl hh ≡ Ok tt → Analysing w h f p s ll lh hl hh
 unfolding answer_of
 analysing w h f p s ll lh hl hh e =
     let q = both_done (held_of w h f p s) _ e in

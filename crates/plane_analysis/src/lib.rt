@@ -9,7 +9,7 @@ ghost use Rattle.plane_analysis.specs.Analyses.{answer_of, Analysed};
 
 use bank::Bank;
 use planes::needs::band_need;
-use planes::{Planes, bands_answer, held_answer};
+use planes::{PlanesError, bands_answer, held_answer};
 
 // The tests, on lengths alone.
 #[tactic(auto, using(planes::specs::Tested::held_done), unfolding(crate::specs::Analyses::answer_of))]
@@ -23,18 +23,15 @@ pub fn plane_analysis_answer(
     lh: usize,
     hl: usize,
     hh: usize,
-) -> Planes
+) -> Result<(), PlanesError>
     ensures { result ≡ answer_of width height f plane scratch ll lh hl hh }
 {
-    let answer = held_answer(width, height, f, plane, scratch);
-    let Planes::Done = answer else {
-        return answer;
-    };
+    held_answer(width, height, f, plane, scratch)?;
     if width < f {
-        return Planes::MinFilterSize { n: width, f };
+        return Err(PlanesError::MinFilterSize { n: width, f });
     }
     if height < f {
-        return Planes::MinFilterSize { n: height, f };
+        return Err(PlanesError::MinFilterSize { n: height, f });
     }
     bands_answer(band_need(width, height, f), ll, lh, hl, hh)
 }
@@ -50,7 +47,7 @@ pub fn analyse_plane(
     hl: &mut [f64],
     hh: &mut [f64],
     scratch: &mut [f64],
-) -> Planes
+) -> Result<(), PlanesError>
     ensures { Analysed bank.low bank.high bank.taps bank.border plane.now w h ll.old lh.old hl.old hh.old scratch.old
         result ll.new lh.new hl.new hh.new scratch.new }
 {

@@ -6,7 +6,7 @@ ghost use Rattle.plane_analysis.specs.Analyses.{Analysed};
 use crate::plane_analysis_answer;
 use crate::work::split_plane;
 use border::Border;
-use planes::Planes;
+use planes::PlanesError;
 
 // The four bands of a plane w wide and h high, each column by column.
 pub fn analyse_plane<'a>(
@@ -22,12 +22,12 @@ pub fn analyse_plane<'a>(
     hl: &mut [f64],
     hh: &mut [f64],
     scratch: &mut [f64],
-) -> Planes
+) -> Result<(), PlanesError>
     requires { Counted f (length low.now) (length high.now) }
     ensures { Analysed low.now high.now f border plane.now w h ll.old lh.old hl.old hh.old scratch.old
         result ll.new lh.new hl.new hh.new scratch.new }
 {
-    let answer = plane_analysis_answer(
+    plane_analysis_answer(
         w,
         h,
         f,
@@ -37,10 +37,7 @@ pub fn analyse_plane<'a>(
         lh.len(),
         hl.len(),
         hh.len(),
-    );
-    let Planes::Done = answer else {
-        return answer;
-    };
+    )?;
     split_plane(low, high, f, border, plane, w, h, ll, lh, hl, hh, scratch);
-    Planes::Done
+    Ok(())
 }

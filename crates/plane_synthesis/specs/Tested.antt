@@ -1,5 +1,5 @@
 -- Laws of the tests and of the whole: an answer is done where every test passed, which gives each part of the work what it asks for, and the parts together are the plane.
-use Rattle.std.specs.Prelude.{◌≡◌, refl, not, List, ◌++◌, ℕ, ◌+◌, ◌-◌, ◌*◌, ◌%◌, ◌≤◌, eqb, length, take, drop, Float}
+use Rattle.std.specs.Prelude.{◌≡◌, refl, not, List, ◌++◌, ℕ, ◌+◌, ◌-◌, ◌*◌, ◌%◌, ◌≤◌, eqb, length, take, drop, Ok, Float}
 use Rattle.std.proofs.Common.{sym, ◌∙◌, append_assoc, mul_comm, arith, eqb-true, lit<, length-append, take_at, drop_at, drop-drop}
 use Rattle.std.proofs.Math.Path.{ap}
 use Rattle.std.proofs.Math.Nat.{add-mul}
@@ -11,7 +11,6 @@ use Rattle.numbers.specs.Places.{drop_further}
 use Rattle.bank.specs.Lengths.{pairs, line_length, GoodTaps}
 use Rattle.synthesis.specs.Lines.{join_of}
 use Rattle.synthesis.specs.Runs.{length_join}
-use Rattle.planes.specs.declared.Planes.TheVariants.{Done}
 use Rattle.planes.specs.Lengths.{band_length, plane_scratch}
 use Rattle.planes.specs.Answers.{number_of, held_of, bands_of}
 use Rattle.planes.specs.Tested.{both_done, held_done, bands_done}
@@ -28,7 +27,7 @@ use Rattle.plane_synthesis.specs.Steps.{rows_joined}
 even_side : (n f : ℕ) → GoodTaps f → n ≡ line_length (pairs n f) f → n % 2 ≡ 0
 even_side n f t e = omega (arith, e, t.even, t.two)
 
-pub synthesising : (w h f p s ll lh hl hh : ℕ) → answer_of w h f p s ll lh hl hh ≡ Done → Synthesising w h f p s ll lh hl hh
+pub synthesising : (w h f p s ll lh hl hh : ℕ) → answer_of w h f p s ll lh hl hh ≡ Ok tt → Synthesising w h f p s ll lh hl hh
 unfolding answer_of
 synthesising w h f p s ll lh hl hh e =
     let q = both_done _ (sides_of w h f) e in

@@ -11,29 +11,29 @@ ghost use Rattle.planes.specs.Works.{Sided};
 use bank::Bank;
 use bank::lengths::{dwt_length, idwt_length};
 use planes::needs::band_need;
-use planes::{Planes, bands_answer, held_answer};
+use planes::{PlanesError, bands_answer, held_answer};
 
 // Whether synthesis gives these sides; they have been tested for size.
 #[tactic(auto, using(bank::specs::Tested::sound_pairs))]
-fn sides_answer(width: usize, height: usize, f: usize) -> Planes
+fn sides_answer(width: usize, height: usize, f: usize) -> Result<(), PlanesError>
     requires { Sided width height f }
     ensures { result ≡ sides_of width height f }
 {
     let tall = idwt_length(dwt_length(height, f), f);
     if height != tall {
-        return Planes::OutputSizeIsNotValid {
+        return Err(PlanesError::OutputSizeIsNotValid {
             have: height,
             need: tall,
-        };
+        });
     }
     let wide = idwt_length(dwt_length(width, f), f);
     if width != wide {
-        return Planes::OutputSizeIsNotValid {
+        return Err(PlanesError::OutputSizeIsNotValid {
             have: width,
             need: wide,
-        };
+        });
     }
-    Planes::Done
+    Ok(())
 }
 
 // The tests, on lengths alone.
@@ -48,17 +48,11 @@ pub fn plane_synthesis_answer(
     lh: usize,
     hl: usize,
     hh: usize,
-) -> Planes
+) -> Result<(), PlanesError>
     ensures { result ≡ answer_of width height f plane scratch ll lh hl hh }
 {
-    let held = held_answer(width, height, f, plane, scratch);
-    let Planes::Done = held else {
-        return held;
-    };
-    let bands = bands_answer(band_need(width, height, f), ll, lh, hl, hh);
-    let Planes::Done = bands else {
-        return bands;
-    };
+    held_answer(width, height, f, plane, scratch)?;
+    bands_answer(band_need(width, height, f), ll, lh, hl, hh)?;
     sides_answer(width, height, f)
 }
 
@@ -73,7 +67,7 @@ pub fn synthesise_plane(
     h: usize,
     plane: &mut [f64],
     scratch: &mut [f64],
-) -> Planes
+) -> Result<(), PlanesError>
     ensures { Synthesised bank.lowback bank.highback bank.taps ll.now lh.now hl.now hh.now w h plane.old scratch.old
         result plane.new scratch.new }
 {

@@ -5,7 +5,7 @@ ghost use Rattle.plane_synthesis.specs.Syntheses.{Synthesised};
 
 use crate::plane_synthesis_answer;
 use crate::work::join_plane;
-use planes::Planes;
+use planes::PlanesError;
 
 // The plane w wide and h high that four bands give; what the target held is gone.
 pub fn synthesise_plane<'a>(
@@ -20,12 +20,12 @@ pub fn synthesise_plane<'a>(
     h: usize,
     plane: &mut [f64],
     scratch: &mut [f64],
-) -> Planes
+) -> Result<(), PlanesError>
     requires { Counted f (length low.now) (length high.now) }
     ensures { Synthesised low.now high.now f ll.now lh.now hl.now hh.now w h plane.old scratch.old
         result plane.new scratch.new }
 {
-    let answer = plane_synthesis_answer(
+    plane_synthesis_answer(
         w,
         h,
         f,
@@ -35,10 +35,7 @@ pub fn synthesise_plane<'a>(
         lh.len(),
         hl.len(),
         hh.len(),
-    );
-    let Planes::Done = answer else {
-        return answer;
-    };
+    )?;
     join_plane(low, high, f, ll, lh, hl, hh, w, h, plane, scratch);
-    Planes::Done
+    Ok(())
 }

@@ -1,5 +1,5 @@
 -- Laws of the tests: an answer is done where every test passed, which gives the work what it asks for; tests that follow others speak where those are done.
-use Rattle.std.specs.Prelude.{◌≡◌, refl, not, ◌||◌, ℕ, ◌*◌, eqb, ltb, length, drop, Float, List}
+use Rattle.std.specs.Prelude.{◌≡◌, refl, not, ◌||◌, ℕ, ◌*◌, eqb, ltb, length, drop, ⊤, Result, Ok, Err, Float, List}
 use Rattle.std.proofs.Common.{arith, eqb-true, ltb-false, lit<}
 use Rattle.std.proofs.lemmas.Bool.{eqb-false, not-false}
 use Rattle.numbers.specs.Words.{when_done, and_then}
@@ -8,35 +8,35 @@ use Rattle.tables.specs.Tables.{too_large}
 use Rattle.tables.specs.Sides.{within_limits}
 use Rattle.bank.specs.Lengths.{bad_taps}
 use Rattle.bank.specs.Tested.{good_taps}
-use Rattle.planes.specs.declared.Planes.{Planes}
-use Rattle.planes.specs.declared.Planes.TheVariants.{Done, MinFilterSize, ApproxDetailsSize, OutputSizeIsNotValid, ZeroedBaseSize, InputSize, Limit, Taps}
+use Rattle.planes.specs.declared.PlanesError.{PlanesError}
+use Rattle.planes.specs.declared.PlanesError.TheVariants.{MinFilterSize, ApproxDetailsSize, OutputSizeIsNotValid, ZeroedBaseSize, InputSize, Limit, Taps}
 use Rattle.planes.specs.Lengths.{plane_scratch}
 use Rattle.planes.specs.Answers.{number_of, asked_of, held_of, bands_of, Scratched}
 use Rattle.planes.specs.Works.{Sided, Held, Banded}
 
 -- 0 is the number of done alone
-pub done_alone : (r : Planes) → number_of r ≡ 0 → r ≡ Done
-done_alone Done e = refl
-done_alone (MinFilterSize n f) e = absurd (omega arith)
-done_alone (ApproxDetailsSize l) e = absurd (omega arith)
-done_alone (OutputSizeIsNotValid have need) e = absurd (omega arith)
-done_alone ZeroedBaseSize e = absurd (omega arith)
-done_alone (InputSize need have) e = absurd (omega arith)
-done_alone Limit e = absurd (omega arith)
-done_alone Taps e = absurd (omega arith)
+pub done_alone : (r : Result ⊤ PlanesError) → number_of r ≡ 0 → r ≡ Ok tt
+done_alone (Ok tt) e = refl
+done_alone (Err (MinFilterSize n f)) e = absurd (omega arith)
+done_alone (Err (ApproxDetailsSize l)) e = absurd (omega arith)
+done_alone (Err (OutputSizeIsNotValid have need)) e = absurd (omega arith)
+done_alone (Err ZeroedBaseSize) e = absurd (omega arith)
+done_alone (Err (InputSize need have)) e = absurd (omega arith)
+done_alone (Err Limit) e = absurd (omega arith)
+done_alone (Err Taps) e = absurd (omega arith)
 
 -- tests that follow others, by another name of their answer
-pub stopped : {A : Type 0} {x : Planes} (a : Planes) (new : A) (old : Planes → A) → a ≡ x → (a ≡ Done → ⊥) → old a ≡ when_done (number_of x) new (old x)
+pub stopped : {A : Type 0} {x : Result ⊤ PlanesError} (a : Result ⊤ PlanesError) (new : A) (old : Result ⊤ PlanesError → A) → a ≡ x → (a ≡ Ok tt → ⊥) → old a ≡ when_done (number_of x) new (old x)
 stopped = stopped_by number_of done_alone
 
-pub went_on : {A : Type 0} {x : Planes} {y : A} (new old : A) → x ≡ Done → y ≡ new → y ≡ when_done (number_of x) new old
+pub went_on : {A : Type 0} {x : Result ⊤ PlanesError} {y : A} (new old : A) → x ≡ Ok tt → y ≡ new → y ≡ when_done (number_of x) new old
 went_on = went_on_by number_of refl
 
-pub both_done : (a b : Planes) → and_then number_of a b ≡ Done → (a ≡ Done) × (b ≡ Done)
+pub both_done : (a b : Result ⊤ PlanesError) → and_then number_of a b ≡ Ok tt → (a ≡ Ok tt) × (b ≡ Ok tt)
 both_done = both_done_by number_of done_alone refl
 
 -- ---- tests that passed
-pub asked_done : (w h f : ℕ) → asked_of w h f ≡ Done → Sided w h f
+pub asked_done : (w h f : ℕ) → asked_of w h f ≡ Ok tt → Sided w h f
 unfolding asked_of
 asked_done w h f e =
     let p1 = passed number_of (bad_taps f) e (lit< tt) refl in
@@ -55,7 +55,7 @@ asked_done w h f e =
       product = limits.2;
     }
 
-pub held_done : (w h f p s : ℕ) → held_of w h f p s ≡ Done → Held w h f p s
+pub held_done : (w h f p s : ℕ) → held_of w h f p s ≡ Ok tt → Held w h f p s
 unfolding held_of
 held_done w h f p s e =
     let q = both_done (asked_of w h f) _ e in
@@ -63,7 +63,7 @@ held_done w h f p s e =
     let u = passed number_of (ltb s (plane_scratch w h f)) t.1 (lit< tt) refl in
     record { sides = asked_done w h f q.0; filled = eqb-true p (w * h) (not-false _ t.0); room = ltb-false s (plane_scratch w h f) u.0 }
 
-pub bands_done : (l ll lh hl hh : ℕ) → bands_of l ll lh hl hh ≡ Done → Banded l ll lh hl hh
+pub bands_done : (l ll lh hl hh : ℕ) → bands_of l ll lh hl hh ≡ Ok tt → Banded l ll lh hl hh
 unfolding bands_of
 bands_done l ll lh hl hh e =
     let p1 = passed number_of (not (eqb ll l)) e (lit< tt) refl in

@@ -11,9 +11,9 @@ use crate::needs::scratch_need;
 use bank::sizes::bad_taps;
 use tables::sides::too_large;
 
-#[derive(Drop)]
-pub enum Planes {
-    Done,
+// Why there is no work on a plane.
+#[derive(Clone, Copy, Debug, PartialEq, Eq)]
+pub enum PlanesError {
     MinFilterSize { n: usize, f: usize },
     ApproxDetailsSize(usize),
     OutputSizeIsNotValid { have: usize, need: usize },
@@ -25,63 +25,72 @@ pub enum Planes {
 
 // Whether there is a plane to work on.
 #[tactic(auto, unfolding(crate::specs::Answers::asked_of))]
-pub fn asked_answer(width: usize, height: usize, f: usize) -> Planes
+pub fn asked_answer(width: usize, height: usize, f: usize) -> Result<(), PlanesError>
     ensures { result ≡ asked_of width height f }
 {
     if bad_taps(f) {
-        return Planes::Taps;
+        return Err(PlanesError::Taps);
     }
     if width == 0 || height == 0 {
-        return Planes::ZeroedBaseSize;
+        return Err(PlanesError::ZeroedBaseSize);
     }
     if too_large(width, height) {
-        return Planes::Limit;
+        return Err(PlanesError::Limit);
     }
-    Planes::Done
+    Ok(())
 }
 
 // The same, and then whether the plane has its length and the scratch has room.
 #[tactic(auto, using(crate::specs::Tested::asked_done), unfolding(crate::specs::Answers::held_of))]
-pub fn held_answer(width: usize, height: usize, f: usize, plane: usize, scratch: usize) -> Planes
+pub fn held_answer(
+    width: usize,
+    height: usize,
+    f: usize,
+    plane: usize,
+    scratch: usize,
+) -> Result<(), PlanesError>
     ensures { result ≡ held_of width height f plane scratch }
 {
-    let answer = asked_answer(width, height, f);
-    let Planes::Done = answer else {
-        return answer;
-    };
+    asked_answer(width, height, f)?;
     let area = width * height;
     if plane != area {
-        return Planes::InputSize {
+        return Err(PlanesError::InputSize {
             need: area,
             have: plane,
-        };
+        });
     }
     let need = scratch_need(width, height, f);
     if scratch < need {
-        return Planes::InputSize {
+        return Err(PlanesError::InputSize {
             need,
             have: scratch,
-        };
+        });
     }
-    Planes::Done
+    Ok(())
 }
 
 // Whether each band has its length.
 #[tactic(auto, unfolding(crate::specs::Answers::bands_of))]
-pub fn bands_answer(length: usize, ll: usize, lh: usize, hl: usize, hh: usize) -> Planes
+pub fn bands_answer(
+    length: usize,
+    ll: usize,
+    lh: usize,
+    hl: usize,
+    hh: usize,
+) -> Result<(), PlanesError>
     ensures { result ≡ bands_of length ll lh hl hh }
 {
     if ll != length {
-        return Planes::ApproxDetailsSize(ll);
+        return Err(PlanesError::ApproxDetailsSize(ll));
     }
     if lh != length {
-        return Planes::ApproxDetailsSize(lh);
+        return Err(PlanesError::ApproxDetailsSize(lh));
     }
     if hl != length {
-        return Planes::ApproxDetailsSize(hl);
+        return Err(PlanesError::ApproxDetailsSize(hl));
     }
     if hh != length {
-        return Planes::ApproxDetailsSize(hh);
+        return Err(PlanesError::ApproxDetailsSize(hh));
     }
-    Planes::Done
+    Ok(())
 }

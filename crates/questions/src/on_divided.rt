@@ -8,19 +8,19 @@ use crate::on_pairs::paired;
 use crate::parts::Line;
 use crate::widths::Width;
 use bank::Bank;
-use exact_levels::{LevelsBack, levels_back_answer, there_and_back_levels};
+use exact_levels::{LevelsBackError, levels_back_answer, there_and_back_levels};
 use isferghul::packing;
 use level_telling::told;
 use restoring::divided;
 use restoring::divided::divided_answer;
 
-fn back_told(answer: LevelsBack, carried: &mut [usize; 2]) -> u64
+fn back_told(answer: Result<(), LevelsBackError>, carried: &mut [usize; 2]) -> u64
     ensures { Told (Backs.number_of answer) (Backs.values_of answer) carried.old result carried.new }
 {
     match answer {
-        LevelsBack::Done => 0,
-        LevelsBack::Analysis(refusal) => told::levels(refusal, carried),
-        LevelsBack::Restoring(refusal) => told::divided(refusal, carried),
+        Ok(()) => 0,
+        Err(LevelsBackError::Analysis(refusal)) => told::levels(Err(refusal), carried),
+        Err(LevelsBackError::Restoring(refusal)) => told::divided(Err(refusal), carried),
     }
 }
 

@@ -1,5 +1,5 @@
 -- Laws of the tests: an answer is done where every test passed, which gives the work what it asks for, and the part handed out is the restored line.
-use Rattle.std.specs.Prelude.{◌≡◌, refl, cond, List, [], ℕ, zero, suc, ◌-◌, ◌%◌, ltb, eqb, length, take, Float}
+use Rattle.std.specs.Prelude.{◌≡◌, refl, cond, List, [], ℕ, zero, suc, ◌-◌, ◌%◌, ltb, eqb, length, take, Result, Ok, ⊤, Float}
 use Rattle.std.proofs.Common.{sym, ap, ◌∙◌, arith, ltb-false, eq-eqb, ne_eqb, lit<}
 use Rattle.std.specs.Float.{Format, binary64}
 use Rattle.std.specs.Borrow.{MutBor}
@@ -7,8 +7,7 @@ use Rattle.numbers.specs.Words.{when_done}
 use Rattle.numbers.specs.Tests.{passed, refused, kept, renewed, cond_true, cond_false}
 use Rattle.bank.specs.Lengths.{line_length}
 use Rattle.synthesis.specs.Runs.{length_join}
-use Rattle.packed.specs.declared.Levels.{Levels}
-use Rattle.packed.specs.declared.Levels.TheVariants.{Done}
+use Rattle.packed.specs.declared.LevelsError.{LevelsError}
 use Rattle.packed.specs.Lengths.{levels_of, line_after, restoring_length}
 use Rattle.packed.specs.Answers.{number_of, held_of, part_at}
 use Rattle.packed.specs.Tested.{done_alone, both_done, filled}
@@ -19,7 +18,7 @@ use Rattle.restoring.specs.Steps.{whole_front}
 use Rattle.restoring.specs.Works.{Restoring}
 
 -- k is the number of levels by another name
-pub restoring : (n f levels k p a b : ℕ) → k ≡ levels_of levels → answer_of n f levels p a b ≡ Done → Restoring n f k p a b
+pub restoring : (n f levels k p a b : ℕ) → k ≡ levels_of levels → answer_of n f levels p a b ≡ Ok tt → Restoring n f k p a b
 unfolding answer_of
 restoring n f levels k p a b z e =
     let q = both_done (held_of n f levels p) _ e in
@@ -39,13 +38,13 @@ length-restored g low high packed n F (suc j) p a b w e =
     ∙ ap (λ (m : ℕ). line_length m F) (length_part n F (suc j) 1 packed w.packs.sound.taps.two (omega arith) (e ∙ whole_length w.packs))
 
 -- ---- the part handed out: none on a refusal, else the front of the buffer that holds the line
-pub none_handed : {low high : List Float} {f : ℕ} {packed : List Float} {n levels : ℕ} {first second part : MutBor (List Float)} (r : Levels)
-    → r ≡ answer_of n f levels (length packed) (length first.now) (length second.now) → (r ≡ Done → ⊥) → part.now ≡ [] → part.ref_ptr ≡ first.ref_ptr
+pub none_handed : {low high : List Float} {f : ℕ} {packed : List Float} {n levels : ℕ} {first second part : MutBor (List Float)} (r : Result ⊤ LevelsError)
+    → r ≡ answer_of n f levels (length packed) (length first.now) (length second.now) → (r ≡ Ok tt → ⊥) → part.now ≡ [] → part.ref_ptr ≡ first.ref_ptr
     → HandedOut low high f packed n levels first second part
 none_handed r e h none front = let k = refused number_of done_alone _ (λ q. h (e ∙ q)) in record { handed = none ∙ kept _ k _ []; lies = front ∙ kept _ k _ _ }
 
-module _ (low high : List Float) (f : ℕ) (packed : List Float) (n levels : ℕ) (first second part : MutBor (List Float)) (first' second' : List Float) (r : Levels) (k m : ℕ)
-    (p : Restored low high f packed n levels first.now second.now r first' second') (done : r ≡ Done) (count : k ≡ levels_of levels) (long : m ≡ restoring_length n f) where
+module _ (low high : List Float) (f : ℕ) (packed : List Float) (n levels : ℕ) (first second part : MutBor (List Float)) (first' second' : List Float) (r : Result ⊤ LevelsError) (k m : ℕ)
+    (p : Restored low high f packed n levels first.now second.now r first' second') (done : r ≡ Ok tt) (count : k ≡ levels_of levels) (long : m ≡ restoring_length n f) where
   all : Restoring n f (levels_of levels) (length packed) (length first.now) (length second.now)
   all = restoring n f levels (levels_of levels) (length packed) (length first.now) (length second.now) refl (sym p.answer ∙ done)
 
@@ -58,7 +57,7 @@ module _ (low high : List Float) (f : ℕ) (packed : List Float) (n levels : ℕ
   as_handed : part.now ≡ line → part.ref_ptr ≡ place → HandedOut low high f packed n levels first second part
   as_handed e q =
       let z = sym p.answer ∙ done in
-      record { handed = e ∙ sym (ap (λ (a : Levels). when_done (number_of a) line []) z); lies = q ∙ sym (ap (λ (a : Levels). when_done (number_of a) place first.ref_ptr) z) }
+      record { handed = e ∙ sym (ap (λ (a : Result ⊤ LevelsError). when_done (number_of a) line []) z); lies = q ∙ sym (ap (λ (a : Result ⊤ LevelsError). when_done (number_of a) place first.ref_ptr) z) }
 
   length-line : m ≡ length line
   length-line = long ∙ sym (length-restored binary64 low high packed n f (levels_of levels) _ _ _ all refl)

@@ -1,5 +1,6 @@
 // Restoring several levels with each joined line divided by s, which takes off what a level multiplies by.
 ghost use Rattle.std.specs.Prelude.{◌≡◌};
+ghost use Rattle.restoring.specs.declared.divided.DividedError.TheVariants.{Refused};
 ghost use Rattle.restoring.specs.Dividings.{answer_of, DividedBack, DividedOut};
 
 use crate::work::front;
@@ -7,13 +8,21 @@ use crate::{lists, restoring_answer};
 use bank::Bank;
 use bank::sizes::bad_taps;
 use dividing::bad_divisor;
-use packed::Levels;
+use packed::LevelsError;
 
-#[derive(Drop)]
-pub enum Divided {
-    Done,
+// Why a line is not restored with a divisor.
+#[derive(Clone, Copy, Debug, PartialEq, Eq)]
+pub enum DividedError {
     Divisor,
-    Refused(Levels),
+    Refused(LevelsError),
+}
+
+impl From<LevelsError> for DividedError {
+    ghost from_gives = { λ e r. r ≡ Refused e };
+
+    fn from(e: LevelsError) -> DividedError {
+        DividedError::Refused(e)
+    }
 }
 
 // The tests: taps, then s, then the lengths.
@@ -26,20 +35,17 @@ pub fn divided_answer(
     packed: usize,
     first: usize,
     second: usize,
-) -> Divided
+) -> Result<(), DividedError>
     ensures { result ≡ answer_of n f s levels packed first second }
 {
     if bad_taps(f) {
-        return Divided::Refused(Levels::Taps);
+        return Err(DividedError::Refused(LevelsError::Taps));
     }
     if bad_divisor(s) {
-        return Divided::Divisor;
+        return Err(DividedError::Divisor);
     }
-    let answer = restoring_answer(n, f, levels, packed, first, second);
-    let Levels::Done = answer else {
-        return Divided::Refused(answer);
-    };
-    Divided::Done
+    restoring_answer(n, f, levels, packed, first, second)?;
+    Ok(())
 }
 
 // The line comes to stand where `restore_levels` leaves it.
@@ -51,7 +57,7 @@ pub fn restore_divided(
     levels: usize,
     first: &mut [f64],
     second: &mut [f64],
-) -> Divided
+) -> Result<(), DividedError>
     ensures { DividedBack bank.lowback bank.highback bank.taps s packed.now n levels first.old second.old result first.new second.new }
 {
     let f = bank.taps;
@@ -78,7 +84,7 @@ pub fn divided_line<'a>(
     let lows = bank.lowback;
     let highs = bank.highback;
     let answer = lists::restore_divided(&lows, &highs, f, s, packed, n, levels, first, second);
-    let Divided::Done = answer else {
+    let Ok(()) = answer else {
         return &mut first[..0];
     };
     front(n, f, levels, first, second)

@@ -10,7 +10,7 @@ ghost use Rattle.restoring.specs.Restorings.{answer_of, Restored, HandedOut};
 
 use bank::Bank;
 use packed::depth::restoring_need;
-use packed::{Levels, packed_answer};
+use packed::{LevelsError, packed_answer};
 
 // The tests, on lengths alone.
 #[tactic(auto, unfolding(crate::specs::Restorings::answer_of))]
@@ -21,21 +21,18 @@ pub fn restoring_answer(
     packed: usize,
     first: usize,
     second: usize,
-) -> Levels
+) -> Result<(), LevelsError>
     ensures { result ≡ answer_of n f levels packed first second }
 {
-    let answer = packed_answer(n, f, levels, packed);
-    let Levels::Done = answer else {
-        return answer;
-    };
+    packed_answer(n, f, levels, packed)?;
     let need = restoring_need(n, f);
     if first < need {
-        return Levels::ScratchSize { need, have: first };
+        return Err(LevelsError::ScratchSize { need, have: first });
     }
     if second < need {
-        return Levels::ScratchSize { need, have: second };
+        return Err(LevelsError::ScratchSize { need, have: second });
     }
-    Levels::Done
+    Ok(())
 }
 
 // The line comes to stand at the front of the first buffer if the levels are odd in number, of the second if even.
@@ -46,7 +43,7 @@ pub fn restore_levels(
     levels: usize,
     first: &mut [f64],
     second: &mut [f64],
-) -> Levels
+) -> Result<(), LevelsError>
     ensures { Restored bank.lowback bank.highback bank.taps packed.now n levels first.old second.old result first.new second.new }
 {
     let f = bank.taps;
@@ -72,7 +69,7 @@ pub fn restored_line<'a>(
     let lows = bank.lowback;
     let highs = bank.highback;
     let answer = lists::restore_levels(&lows, &highs, f, packed, n, levels, first, second);
-    let Levels::Done = answer else {
+    let Ok(()) = answer else {
         return &mut first[..0];
     };
     let length = restoring_need(n, f);

@@ -4,11 +4,11 @@ ghost use Rattle.bank.specs.Lengths.{Counted};
 ghost use Rattle.restoring.specs.Restorings.{Restored};
 ghost use Rattle.restoring.specs.Dividings.{DividedBack};
 
-use crate::divided::{Divided, divided_answer};
+use crate::divided::{DividedError, divided_answer};
 use crate::restoring_answer;
 use crate::work::{restore, restore_by};
 use dividing::Finish;
-use packed::Levels;
+use packed::LevelsError;
 
 // The line comes to stand at the front of the first buffer if the levels are odd in number, of the second if even.
 pub fn restore_levels<'a>(
@@ -20,17 +20,14 @@ pub fn restore_levels<'a>(
     levels: usize,
     first: &mut [f64],
     second: &mut [f64],
-) -> Levels
+) -> Result<(), LevelsError>
     requires { Counted f (length low.now) (length high.now) }
     ensures { Restored low.now high.now f packed.now n levels first.old second.old
         result first.new second.new }
 {
-    let answer = restoring_answer(n, f, levels, packed.len(), first.len(), second.len());
-    let Levels::Done = answer else {
-        return answer;
-    };
+    restoring_answer(n, f, levels, packed.len(), first.len(), second.len())?;
     restore(low, high, f, packed, n, levels.max(1), first, second);
-    Levels::Done
+    Ok(())
 }
 
 // The same, each joined line divided by s.
@@ -44,16 +41,13 @@ pub fn restore_divided<'a>(
     levels: usize,
     first: &mut [f64],
     second: &mut [f64],
-) -> Divided
+) -> Result<(), DividedError>
     requires { Counted f (length low.now) (length high.now) }
     ensures { DividedBack low.now high.now f s packed.now n levels first.old second.old
         result first.new second.new }
 {
-    let answer = divided_answer(n, f, s, levels, packed.len(), first.len(), second.len());
-    let Divided::Done = answer else {
-        return answer;
-    };
+    divided_answer(n, f, s, levels, packed.len(), first.len(), second.len())?;
     let by = Finish::DividedBy(s);
     restore_by(low, high, f, by, packed, n, levels.max(1), first, second);
-    Divided::Done
+    Ok(())
 }

@@ -1,8 +1,8 @@
 -- Laws of the tests: an answer is done where every test passed, and nowhere else, which gives the work what it asks for.
-use Rattle.std.specs.Prelude.{◌≡◌, refl, ℕ, ◌*◌, ◌+◌, ◌<◌, eqb, ltb, leb, ◌||◌, not}
+use Rattle.std.specs.Prelude.{◌≡◌, refl, ℕ, ◌*◌, ◌+◌, ◌<◌, eqb, ltb, leb, ◌||◌, not, Result, ⊤, Ok, Err}
 use Rattle.std.proofs.Common.{sym, eqb-true, ltb-false, leb-false, eq-eqb, le-ltb, lit<, arith}
-use Rattle.synthesis.specs.declared.Synthesis.{Synthesis}
-use Rattle.synthesis.specs.declared.Synthesis.TheVariants.{Done, ApproxDetailsNotMatches, OutputSizeIsNotValid, ZeroedBaseSize, Limit, Taps}
+use Rattle.synthesis.specs.declared.SynthesisError.{SynthesisError}
+use Rattle.synthesis.specs.declared.SynthesisError.TheVariants.{ApproxDetailsNotMatches, OutputSizeIsNotValid, ZeroedBaseSize, Limit, Taps}
 use Rattle.synthesis.specs.Syntheses.{answer_of, number_of}
 use Rattle.numbers.specs.Tests.{neither, passed}
 use Rattle.numbers.specs.Words.{longest}
@@ -12,15 +12,15 @@ use Rattle.bank.specs.Lengths.{bad_taps, line_length}
 use Rattle.bank.specs.Tested.{good_taps, taps_pass}
 
 -- 0 is the number of done alone
-pub done_alone : (r : Synthesis) → number_of r ≡ 0 → r ≡ Done
-done_alone Done e = refl
-done_alone (ApproxDetailsNotMatches a d) e = absurd (omega arith)
-done_alone (OutputSizeIsNotValid have need) e = absurd (omega arith)
-done_alone ZeroedBaseSize e = absurd (omega arith)
-done_alone Limit e = absurd (omega arith)
-done_alone Taps e = absurd (omega arith)
+pub done_alone : (r : Result ⊤ SynthesisError) → number_of r ≡ 0 → r ≡ Ok tt
+done_alone (Ok done) e = refl
+done_alone (Err (ApproxDetailsNotMatches a d)) e = absurd (omega arith)
+done_alone (Err (OutputSizeIsNotValid have need)) e = absurd (omega arith)
+done_alone (Err ZeroedBaseSize) e = absurd (omega arith)
+done_alone (Err Limit) e = absurd (omega arith)
+done_alone (Err Taps) e = absurd (omega arith)
 
-pub joinable : (f a d o : ℕ) → answer_of f a d o ≡ Done → Joinable f a d o
+pub joinable : (f a d o : ℕ) → answer_of f a d o ≡ Ok tt → Joinable f a d o
 unfolding answer_of
 joinable f a d o e =
     let p1 = passed number_of (bad_taps f) e (lit< tt) refl in
@@ -41,7 +41,7 @@ joinable f a d o e =
     }
 
 -- and where it has that, with a place to write, the answer is done
-pub joined_done : (f a d o : ℕ) → Joinable f a d o → 0 < o → answer_of f a d o ≡ Done
+pub joined_done : (f a d o : ℕ) → Joinable f a d o → 0 < o → answer_of f a d o ≡ Ok tt
 unfolding answer_of
 joined_done f a d o p h =
     let same : a ≡ d = sym p.both in

@@ -13,9 +13,9 @@ use bank::sizes::bad_taps;
 use numbers::LONGEST;
 use numbers::real::Real;
 
-#[derive(Drop)]
-pub enum Synthesis {
-    Done,
+// Why bands are not joined.
+#[derive(Clone, Copy, Debug, PartialEq, Eq)]
+pub enum SynthesisError {
     ApproxDetailsNotMatches { approx: usize, detail: usize },
     OutputSizeIsNotValid { have: usize, need: usize },
     ZeroedBaseSize,
@@ -24,33 +24,43 @@ pub enum Synthesis {
 }
 
 // The tests, on lengths alone.
-pub fn synthesis_answer(f: usize, approx: usize, detail: usize, out: usize) -> Synthesis
+pub fn synthesis_answer(
+    f: usize,
+    approx: usize,
+    detail: usize,
+    out: usize,
+) -> Result<(), SynthesisError>
     ensures { result ≡ answer_of f approx detail out }
 {
     if bad_taps(f) {
-        return Synthesis::Taps;
+        return Err(SynthesisError::Taps);
     }
     if LONGEST < approx {
-        return Synthesis::Limit;
+        return Err(SynthesisError::Limit);
     }
     if LONGEST < detail {
-        return Synthesis::Limit;
+        return Err(SynthesisError::Limit);
     }
     if approx != detail {
-        return Synthesis::ApproxDetailsNotMatches { approx, detail };
+        return Err(SynthesisError::ApproxDetailsNotMatches { approx, detail });
     }
     if 2 * approx + 2 <= f {
-        return Synthesis::ZeroedBaseSize;
+        return Err(SynthesisError::ZeroedBaseSize);
     }
     let need = idwt_length(approx, f);
     if out != need {
-        return Synthesis::OutputSizeIsNotValid { have: out, need };
+        return Err(SynthesisError::OutputSizeIsNotValid { have: out, need });
     }
-    Synthesis::Done
+    Ok(())
 }
 
 // Both bands joined onto what the output held.
-pub fn synthesise<R: Real>(bank: Bank<R>, approx: &[R], detail: &[R], out: &mut [R]) -> Synthesis
+pub fn synthesise<R: Real>(
+    bank: Bank<R>,
+    approx: &[R],
+    detail: &[R],
+    out: &mut [R],
+) -> Result<(), SynthesisError>
     ensures { Synthesised R.format (R.floats bank.lowback) (R.floats bank.highback) bank.taps (R.floats approx.now) (R.floats detail.now) (R.floats out.old) result (R.floats out.new) }
 {
     let f = bank.taps;

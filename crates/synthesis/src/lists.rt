@@ -4,7 +4,7 @@ ghost use Rattle.bank.specs.Lengths.{Counted};
 ghost use Rattle.synthesis.specs.Syntheses.{Synthesised};
 
 use crate::work::join;
-use crate::{Synthesis, synthesis_answer};
+use crate::{SynthesisError, synthesis_answer};
 use numbers::real::Real;
 
 // Both bands joined onto what the output held.
@@ -15,14 +15,11 @@ pub fn synthesise<'a, R: Real>(
     approx: &[R],
     detail: &[R],
     out: &mut [R],
-) -> Synthesis
+) -> Result<(), SynthesisError>
     requires { Counted f (length low.now) (length high.now) }
     ensures { Synthesised R.format (R.floats low.now) (R.floats high.now) f (R.floats approx.now) (R.floats detail.now) (R.floats out.old) result (R.floats out.new) }
 {
-    let answer = synthesis_answer(f, approx.len(), detail.len(), out.len());
-    let Synthesis::Done = answer else {
-        return answer;
-    };
+    synthesis_answer(f, approx.len(), detail.len(), out.len())?;
     join(low, high, f, approx, detail, out);
-    Synthesis::Done
+    Ok(())
 }

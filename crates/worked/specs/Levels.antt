@@ -1,5 +1,5 @@
 -- Levels besides those of P1 to P13: what else is to say of their lines, and a line of five there and back over two levels; each is computed.
-use Rattle.std.specs.Prelude.{◌≡◌, refl, List, [], ◌∷◌, pos, negsuc, Float}
+use Rattle.std.specs.Prelude.{◌≡◌, refl, List, [], ◌∷◌, Err, pos, negsuc, Float}
 use Rattle.std.specs.Float.{binary64}
 use Rattle.std.specs.Float.Ieee.{of_int, add, mul}
 use Rattle.numbers.specs.Words.{tab}
@@ -12,7 +12,7 @@ use Rattle.analysis.specs.Sums.{analysed}
 use Rattle.analysis.specs.Lines.{band}
 use Rattle.synthesis.specs.Sums.{joined}
 use Rattle.synthesis.specs.Lines.{synthesised}
-use Rattle.packed.specs.declared.Levels.TheVariants.{MinFilterSize}
+use Rattle.packed.specs.declared.LevelsError.TheVariants.{MinFilterSize}
 use Rattle.packed.specs.Lengths.{line_after, too_short, details_to, level_start, long_lines, most_levels, levels_scratch, restoring_length}
 use Rattle.packed.specs.Answers.{asked_of, held_of}
 use Rattle.levels.specs.Analyses.{answer_of}
@@ -20,7 +20,7 @@ use Rattle.levels.specs.Lines.{line_of, details_of, packed_line}
 use Rattle.restoring.specs.Lines.{restored_after, restored}
 
 -- P2's line, analysed over one level, is refused as it is without levels
-p2_one : answer_of 3 4 1 6 14 ≡ MinFilterSize 3 4
+p2_one : answer_of 3 4 1 6 14 ≡ Err (MinFilterSize 3 4)
 unfolding answer_of held_of asked_of bad_taps too_short line_after
 p2_one = refl
 

@@ -1,19 +1,18 @@
 -- What the entries of a plane answer, every refusal in its order (RULES, Order of tests): each is computed. Where several tests fail, the first answers.
-use Rattle.std.specs.Prelude.{◌≡◌, refl, List, [], ◌∷◌, ℕ}
+use Rattle.std.specs.Prelude.{◌≡◌, refl, List, [], ◌∷◌, ℕ, ⊤, Result}
 use Rattle.bank.specs.Lengths.{bad_taps, pairs}
 use Rattle.tables.specs.Tables.{too_large}
-use Rattle.planes.specs.declared.Planes.{Planes}
-use Rattle.planes.specs.declared.sizes.PlaneSize.{PlaneSize}
+use Rattle.planes.specs.declared.PlanesError.{PlanesError}
 use Rattle.planes.specs.Lengths.{band_length, plane_scratch}
 use Rattle.planes.specs.Answers.{asked_of, held_of, bands_of, size_of, number_of, values_of, size_number, size_values}
 use Rattle.plane_analysis.specs.Analyses as analysis
 use Rattle.plane_synthesis.specs.Syntheses as synthesis
 
 -- an answer: its number, then what it carries
-abbrev told : Planes → List ℕ
+abbrev told : Result ⊤ PlanesError → List ℕ
 told r = number_of r ∷ values_of r
 
-abbrev sized : PlaneSize → List ℕ
+abbrev sized : Result ℕ PlanesError → List ℕ
 sized r = size_number r ∷ size_values r
 
 -- ---- the tests that both entries begin with, on width, height, taps, plane and scratch, where no band has its length

@@ -4,7 +4,7 @@ use Rattle.level_parts.specs.Tested.{handing_done, handed_none}
 use Rattle.level_parts.proofs.level_details.Goals as goal
 
 pub returns-in_default : goal.returns-in_default
-returns-in_default c = handed_none c.handing_answer.result c.handing_answer.ensures c.in_default.not-Done refl refl
+returns-in_default c = handed_none c.handing_answer.result c.handing_answer.ensures (c.in_default.not-Ok tt) refl refl
 
 pub part_of-part-requires : goal.part_of-part-requires
-part_of-part-requires c = (handing_done _ _ _ _ _ (sym c.handing_answer.ensures ∙ c.in-Done.is)).0
+part_of-part-requires c = (handing_done _ _ _ _ _ (sym c.handing_answer.ensures ∙ c.in-Ok.is)).0

@@ -4,4 +4,4 @@ use Rattle.packed.specs.Tested.{held_done}
 use Rattle.level_parts.proofs.read_place.Goals as goal
 
 pub part_of-part-requires : goal.part_of-part-requires
-part_of-part-requires c = record { split = (held_done _ _ _ _ (sym c.packed_answer-answer.ensures ∙ c.in-Done.is)).0; named = omega arith }
+part_of-part-requires c = record { split = (held_done _ _ _ _ (sym c.packed_answer.ensures ∙ c.in_default.is)).0; named = omega arith }

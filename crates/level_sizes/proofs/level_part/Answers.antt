@@ -4,4 +4,4 @@ use Rattle.packed.specs.Tested.{asked_done}
 use Rattle.level_sizes.proofs.level_part.Goals as goal
 
 pub part_of-part-requires : goal.part_of-part-requires
-part_of-part-requires c = record { split = asked_done _ _ _ (sym c.asked_answer-answer.ensures ∙ c.in-Done.is); named = omega arith }
+part_of-part-requires c = record { split = asked_done _ _ _ (sym c.asked_answer.ensures ∙ c.in_ok-asked_answer.was); named = omega arith }

@@ -4,4 +4,4 @@ use mathlib.Core.Path.{◌∙◌, sym}
 use Rattle.level_sizes.proofs.levels_scratch.Goals as goal
 
 pub scratch_need-requires : goal.scratch_need-requires
-scratch_need-requires c = (asked_done c.args.n c.args.f c.args.levels (sym c.asked_answer-answer.ensures ∙ c.in-Done.is)).sound
+scratch_need-requires c = (asked_done c.args.n c.args.f c.args.levels (sym c.asked_answer.ensures ∙ c.in_ok-asked_answer.was)).sound

@@ -4,4 +4,4 @@ use mathlib.Core.Path.{◌∙◌, sym}
 use Rattle.level_sizes.proofs.packed_length.Goals as goal
 
 pub packed_need-requires : goal.packed_need-requires
-packed_need-requires c = asked_done c.args.n c.args.f c.args.levels (sym c.asked_answer-answer.ensures ∙ c.in-Done.is)
+packed_need-requires c = asked_done c.args.n c.args.f c.args.levels (sym c.asked_answer.ensures ∙ c.in_ok-asked_answer.was)

@@ -4,4 +4,4 @@ use mathlib.Core.Path.{◌∙◌, sym}
 use Rattle.level_sizes.proofs.restoring_length.Goals as goal
 
 pub restoring_need-requires : goal.restoring_need-requires
-restoring_need-requires c = first_line (asked_done c.args.n c.args.f c.args.levels (sym c.asked_answer-answer.ensures ∙ c.in-Done.is))
+restoring_need-requires c = first_line (asked_done c.args.n c.args.f c.args.levels (sym c.asked_answer.ensures ∙ c.in_ok-asked_answer.was))

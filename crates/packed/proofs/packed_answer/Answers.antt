@@ -4,4 +4,4 @@ use Rattle.packed.specs.Tested.{asked_done}
 use Rattle.packed.proofs.packed_answer.Goals as goal
 
 pub packed_need-need-requires : goal.packed_need-need-requires
-packed_need-need-requires c = asked_done _ _ _ (sym c.asked_answer-answer.ensures ∙ c.in-Done.is)
+packed_need-need-requires c = asked_done _ _ _ (sym c.asked_answer.ensures ∙ c.in_ok-asked_answer.was)

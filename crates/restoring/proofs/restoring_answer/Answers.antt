@@ -4,4 +4,4 @@ use Rattle.packed.specs.Tested.{held_done, first_line}
 use Rattle.restoring.proofs.restoring_answer.Goals as goal
 
 pub restoring_need-need-requires : goal.restoring_need-need-requires
-restoring_need-need-requires c = first_line (held_done _ _ _ _ (sym c.packed_answer-answer.ensures ∙ c.in-Done.is)).0
+restoring_need-need-requires c = first_line (held_done _ _ _ _ (sym c.packed_answer.ensures ∙ c.in_ok-packed_answer.was)).0

@@ -1,13 +1,9 @@
 -- `bank::taps::mirror` meets its contract: lists that make no bank have no taps; else the taps are written over the whole list.
-use Rattle.std.proofs.Common.{◌∙◌, arith}
-use Rattle.bank.specs.Pairs.{paired, mirror_refused, mirror_over}
+use Rattle.bank.specs.Pairs.{mirror_refused, mirror_over}
 use Rattle.bank.proofs.taps.mirror.Goals as goal
 
 pub returns-then-taps_of-eq0 : goal.returns-then-taps_of-eq0
 returns-then-taps_of-eq0 g c = mirror_refused _ _ (simp (g.met.R.Real.floats_length) c.taps_of.ensures) c.if-taps_of-eq0.true
-
-pub mirror_to-requires : goal.mirror_to-requires
-mirror_to-requires g c = let p = paired _ _ (λ z. c.if-taps_of-eq0.false (c.taps_of.ensures ∙ z)) in omega (arith, p.both)
 
 pub returns : goal.returns
 returns g c = let r = g.met.R.Real in

@@ -8,7 +8,6 @@ use Rattle.border.specs.Rule.{modulo, place_in}
 use Rattle.border.specs.Reach.{Walkable, lap_at}
 use Rattle.border.specs.Rules.{mod_low, modulo_line, modulo_on}
 use Rattle.border.specs.Ways.{lap_put}
-use borrow.Author.Rules.{rules}
 use Rattle.border.proofs.pad.walk_behind.Goals as goal
 
 pub loop-p-init : goal.loop-p-init
@@ -40,6 +39,3 @@ loop-p-preserved g c = let a = c.args in
           ∙ replaced_step (lap_at a.left a.period a.turn a.top x) (a.left + a.n) p x (omega (arith, c.loop-p.auto)) (omega (arith, walk.room, c.loop-p-test.true)) c.loop-p.invariant.2
           (lap_put x walk _ (a.left + a.n) (p - (a.left + a.n)) c.next-q.result p c.loop-p.invariant.2 (omega arith) (omega (arith, c.loop-p.auto, c.loop-p-test.true)) q),
     )
-
-pub returns : goal.returns
-returns g c = placed_end _ _ _ _ _ c.loop-p.invariant.2 (search rules) (search rules)

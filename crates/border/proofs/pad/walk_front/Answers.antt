@@ -5,7 +5,6 @@ use native.Mathlib.Nat.{mod-eq_of_lt}
 use native.Mathlib.Omega.{arith}
 use borrow.Author.Tests.{lt-ltb}
 use lib.Ieee.{nan}
-use Rattle.numbers.specs.Words.{replaced}
 use Rattle.numbers.specs.Write.{placed_start}
 use Rattle.numbers.specs.Places.{replaced_front}
 use Rattle.border.specs.declared.rule.Place.TheVariants.{Before}
@@ -33,11 +32,3 @@ loop-i-preserved g c = let a = c.args in
           ∙ replaced_front nan (lap_at a.left a.period a.turn a.top x) a.left i x c.loop-i-test.true (omega (arith, walk.line)) c.loop-i.invariant.2
           (lap_put x walk _ (a.left - i) i c.loop-i.q (a.left - 1 - i) c.loop-i.invariant.2 (omega arith) (omega (arith, c.loop-i-test.true)) (c.loop-i.invariant.0 ∙ sym place)),
     )
-
-pub returns : goal.returns
-returns g c = let a = c.args in
-    let x = g.R.Real.floats a.s.now in
-    let f = replaced (lap_at a.left a.period a.turn a.top x) in
-    let e : c.loop-i.i ≡ a.left = omega (arith, c.loop-i-test.false, c.loop-i.auto) in
-    let k : a.left - a.left ≡ 0 = omega arith in
-    c.loop-i.invariant.2 ∙ ap (λ (j : ℕ). f (a.left - j) j x) e ∙ ap (λ (j : ℕ). f j a.left x) k

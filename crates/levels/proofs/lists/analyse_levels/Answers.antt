@@ -4,5 +4,5 @@ use Rattle.levels.specs.Tested.{splitting}
 use Rattle.levels.proofs.lists.analyse_levels.Goals as goal
 
 pub split-requires : goal.split-requires
-split-requires c = let p = splitting _ _ _ _ _ _ c.max.ensures (sym c.levels_answer-answer.ensures ∙ c.in-Done.is) in
+split-requires c = let p = splitting _ _ _ _ _ _ c.max.ensures (sym c.levels_answer.ensures ∙ c.in_ok-levels_answer.was) in
     (c.requires p.packs.sound.taps, p)

@@ -5,5 +5,5 @@ use Rattle.plane_analysis.specs.Tested.{analysing}
 use Rattle.plane_analysis.proofs.lists.analyse_plane.Goals as goal
 
 pub split_plane-requires : goal.split_plane-requires
-split_plane-requires c = let p = analysing _ _ _ _ _ _ _ _ _ (sym c.plane_analysis_answer-answer.ensures ∙ c.in-Done.is) in
+split_plane-requires c = let p = analysing _ _ _ _ _ _ _ _ _ (sym c.plane_analysis_answer.ensures ∙ c.in_ok-plane_analysis_answer.was) in
     (c.requires p.held.sides.taps, record { held = p.held; wide = p.wide; high = p.high; bands = omega (arith, p.bands) })

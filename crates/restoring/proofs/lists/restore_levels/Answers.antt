@@ -4,5 +4,5 @@ use mathlib.Core.Path.{◌∙◌, sym}
 use Rattle.restoring.proofs.lists.restore_levels.Goals as goal
 
 pub restore-requires : goal.restore-requires
-restore-requires c = let r = restoring _ _ _ _ _ _ _ c.max.ensures (sym c.restoring_answer-answer.ensures ∙ c.in-Done.is) in
+restore-requires c = let r = restoring _ _ _ _ _ _ _ c.max.ensures (sym c.restoring_answer.ensures ∙ c.in_ok-restoring_answer.was) in
     (c.requires r.packs.sound.taps, r)
