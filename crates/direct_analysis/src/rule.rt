@@ -17,9 +17,11 @@ fn before(border: Border, line: &[f64], k: usize) -> f64
     match border {
         Border::Clamp => line[0],
         Border::Wrap => line[n - 1 - k],
-        Border::Reflect | Border::Mirror => line[k],
-        Border::Reflect101 | Border::Mirror101 => line[k + 1],
+        Border::Reflect => line[k],
         Border::Zeros => 0.0,
+        Border::Reflect101 => line[k + 1],
+        Border::Mirror => line[k],
+        Border::Mirror101 => line[k + 1],
     }
 }
 
@@ -32,9 +34,11 @@ fn behind(border: Border, line: &[f64], k: usize) -> f64
     match border {
         Border::Clamp => line[n - 1],
         Border::Wrap => line[k],
-        Border::Reflect | Border::Mirror => line[n - 1 - k],
-        Border::Reflect101 | Border::Mirror101 => line[n - 2 - k],
+        Border::Reflect => line[n - 1 - k],
         Border::Zeros => 0.0,
+        Border::Reflect101 => line[n - 2 - k],
+        Border::Mirror => line[n - 1 - k],
+        Border::Mirror101 => line[n - 2 - k],
     }
 }
 

@@ -2,7 +2,6 @@
 use mathlib.Core.Path.{refl}
 use Prim.Native.Nat.{◌+◌, ◌-◌}
 use native.Mathlib.Omega.{arith}
-use Rattle.std.proofs.Math.Logic.{⊎_elim}
 use lib.ListN.{length}
 use lib.Ieee.{binary64}
 use Rattle.border.specs.declared.rule.Place.TheVariants.{Before}
@@ -16,18 +15,16 @@ pub returns-in-Wrap : goal.returns-in-Wrap
 returns-in-Wrap c = let a = c.args in taken c.in-Wrap.is (Before a.k) a.line.now (omega arith) (length a.line.now - 1 - a.k) (omega arith) (wrap_before (length a.line.now) a.k c.requires)
 
 pub returns-in-Reflect : goal.returns-in-Reflect
-returns-in-Reflect c = let a = c.args in
-    ⊎_elim
-    (λ e. taken e (Before a.k) a.line.now (omega arith) a.k (omega arith) (reflect_before (length a.line.now) a.k c.requires))
-    (λ e. taken e (Before a.k) a.line.now (omega arith) a.k (omega arith) (mirror_before (length a.line.now) a.k c.requires))
-    c.in-Reflect.is
-
-pub returns-in-Reflect101 : goal.returns-in-Reflect101
-returns-in-Reflect101 c = let a = c.args in
-    ⊎_elim
-    (λ e. taken e (Before a.k) a.line.now (omega arith) (a.k + 1) (omega arith) (reflect101_before (length a.line.now) a.k c.requires))
-    (λ e. taken e (Before a.k) a.line.now (omega arith) (a.k + 1) (omega arith) (mirror101_before (length a.line.now) a.k c.requires))
-    c.in-Reflect101.is
+returns-in-Reflect c = let a = c.args in taken c.in-Reflect.is (Before a.k) a.line.now (omega arith) a.k (omega arith) (reflect_before (length a.line.now) a.k c.requires)
 
 pub returns-in-Zeros : goal.returns-in-Zeros
 returns-in-Zeros c = let a = c.args in nothing c.in-Zeros.is (Before a.k) a.line.now (omega arith) binary64 refl
+
+pub returns-in-Reflect101 : goal.returns-in-Reflect101
+returns-in-Reflect101 c = let a = c.args in taken c.in-Reflect101.is (Before a.k) a.line.now (omega arith) (a.k + 1) (omega arith) (reflect101_before (length a.line.now) a.k c.requires)
+
+pub returns-in-Mirror : goal.returns-in-Mirror
+returns-in-Mirror c = let a = c.args in taken c.in-Mirror.is (Before a.k) a.line.now (omega arith) a.k (omega arith) (mirror_before (length a.line.now) a.k c.requires)
+
+pub returns-in-Mirror101 : goal.returns-in-Mirror101
+returns-in-Mirror101 c = let a = c.args in taken c.in-Mirror101.is (Before a.k) a.line.now (omega arith) (a.k + 1) (omega arith) (mirror101_before (length a.line.now) a.k c.requires)

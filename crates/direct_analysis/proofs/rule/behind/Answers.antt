@@ -2,7 +2,6 @@
 use mathlib.Core.Path.{refl}
 use Prim.Native.Nat.{◌+◌, ◌-◌}
 use native.Mathlib.Omega.{arith}
-use Rattle.std.proofs.Math.Logic.{⊎_elim}
 use lib.ListN.{length}
 use lib.Ieee.{binary64}
 use Rattle.border.specs.declared.rule.Place.TheVariants.{At}
@@ -10,26 +9,22 @@ use Rattle.direct_analysis.specs.Near.{taken, nothing, wrap_behind, reflect_behi
 use Rattle.direct_analysis.proofs.rule.behind.Goals as goal
 
 pub returns-in-Clamp : goal.returns-in-Clamp
-returns-in-Clamp c = let a = c.args in let n = length a.line.now in taken c.in-Clamp.is (At (n + a.k)) a.line.now (omega arith) (n - 1) (omega arith) refl
+returns-in-Clamp c = let a = c.args in taken c.in-Clamp.is (At (length a.line.now + a.k)) a.line.now (omega arith) (length a.line.now - 1) (omega arith) refl
 
 pub returns-in-Wrap : goal.returns-in-Wrap
-returns-in-Wrap c = let a = c.args in let n = length a.line.now in taken c.in-Wrap.is (At (n + a.k)) a.line.now (omega arith) a.k (omega arith) (wrap_behind n a.k c.requires)
+returns-in-Wrap c = let a = c.args in taken c.in-Wrap.is (At (length a.line.now + a.k)) a.line.now (omega arith) a.k (omega arith) (wrap_behind (length a.line.now) a.k c.requires)
 
 pub returns-in-Reflect : goal.returns-in-Reflect
-returns-in-Reflect c = let a = c.args in
-    let n = length a.line.now in
-    ⊎_elim
-    (λ e. taken e (At (n + a.k)) a.line.now (omega arith) (n - 1 - a.k) (omega arith) (reflect_behind n a.k c.requires))
-    (λ e. taken e (At (n + a.k)) a.line.now (omega arith) (n - 1 - a.k) (omega arith) (mirror_behind n a.k c.requires))
-    c.in-Reflect.is
-
-pub returns-in-Reflect101 : goal.returns-in-Reflect101
-returns-in-Reflect101 c = let a = c.args in
-    let n = length a.line.now in
-    ⊎_elim
-    (λ e. taken e (At (n + a.k)) a.line.now (omega arith) (n - 2 - a.k) (omega arith) (reflect101_behind n a.k c.requires))
-    (λ e. taken e (At (n + a.k)) a.line.now (omega arith) (n - 2 - a.k) (omega arith) (mirror101_behind n a.k c.requires))
-    c.in-Reflect101.is
+returns-in-Reflect c = let a = c.args in taken c.in-Reflect.is (At (length a.line.now + a.k)) a.line.now (omega arith) (length a.line.now - 1 - a.k) (omega arith) (reflect_behind (length a.line.now) a.k c.requires)
 
 pub returns-in-Zeros : goal.returns-in-Zeros
-returns-in-Zeros c = let a = c.args in let n = length a.line.now in nothing c.in-Zeros.is (At (n + a.k)) a.line.now (omega arith) binary64 refl
+returns-in-Zeros c = let a = c.args in nothing c.in-Zeros.is (At (length a.line.now + a.k)) a.line.now (omega arith) binary64 refl
+
+pub returns-in-Reflect101 : goal.returns-in-Reflect101
+returns-in-Reflect101 c = let a = c.args in taken c.in-Reflect101.is (At (length a.line.now + a.k)) a.line.now (omega arith) (length a.line.now - 2 - a.k) (omega arith) (reflect101_behind (length a.line.now) a.k c.requires)
+
+pub returns-in-Mirror : goal.returns-in-Mirror
+returns-in-Mirror c = let a = c.args in taken c.in-Mirror.is (At (length a.line.now + a.k)) a.line.now (omega arith) (length a.line.now - 1 - a.k) (omega arith) (mirror_behind (length a.line.now) a.k c.requires)
+
+pub returns-in-Mirror101 : goal.returns-in-Mirror101
+returns-in-Mirror101 c = let a = c.args in taken c.in-Mirror101.is (At (length a.line.now + a.k)) a.line.now (omega arith) (length a.line.now - 2 - a.k) (omega arith) (mirror101_behind (length a.line.now) a.k c.requires)
