@@ -1,7 +1,8 @@
 -- Laws that the entry's proof cites: a text that is not read stands for no request, and one that is read gives what its request does, whichever request it is.
-use Rattle.std.specs.Prelude.{◌≡◌, refl, true, List, [], ◌∷◌, ◌++◌, ℕ, ◌+◌, ◌≤◌, ◌<◌, ltb, length, drop, ℤ, Option, Some, None, Ok, Err, is_some, Float}
+use Rattle.std.specs.Prelude.{◌≡◌, refl, true, List, [], ◌∷◌, ◌++◌, ℕ, ◌+◌, ◌≤◌, ◌<◌, ltb, length, drop, ℤ, Option, Some, None, Result, Ok, Err, Float}
 use Rattle.std.proofs.Common.{sym, ap, ◌∙◌, subst, true≢false, arith, lt-ltb, le-ltb, length-append}
-use Rattle.std.proofs.lemmas.Option.{MatchOption-at_some}
+use Rattle.std.proofs.lemmas.Result.{MatchResult-at_ok}
+use Rattle.std.specs.Result.{is_ok}
 use Rattle.std.proofs.lemmas.List.{length-map}
 use Rattle.std.specs.Float.{binary64}
 use Rattle.std.specs.Float.Ieee.{of_int}
@@ -50,14 +51,14 @@ module _ (text : List ℕ) (numbers : List Float) (m : Mode) (short : length tex
       let e = sym k.mode ∙ found in
       record { border = ap border_in e; same = ap (λ (n : ℕ). three_of (drop n text)) (sym (ap next_in e)) ∙ k.lists }
 
-  no_lists : {r : Option Lists} {old new : List Float} → ListsRead text m.next old r new → r ≡ None → TextParsed text numbers (Err Unreadable) numbers
-  no_lists l e = unread (λ q s. absurd (true≢false (sym (ap (λ (t : Three). t.readable) (meant q s).same) ∙ sym l.whole ∙ ap is_some e)))
+  no_lists : {r : Result Lists Lists} {k : Lists} {old new : List Float} → ListsRead text m.next old r new → r ≡ Err k → TextParsed text numbers (Err Unreadable) numbers
+  no_lists l e = unread (λ q s. absurd (true≢false (sym (ap (λ (t : Three). t.readable) (meant q s).same) ∙ sym l.whole ∙ ap is_ok e)))
 
   -- a text that was read stands for some request
-  not_none : {r : Option Lists} {k : Lists} {old new : List Float} → ListsRead text m.next old r new → r ≡ Some k → ((q : Request) → Stands q text → ⊥) → ⊥
+  not_none : {r : Result Lists Lists} {k : Lists} {old new : List Float} → ListsRead text m.next old r new → r ≡ Ok k → ((q : Request) → Stands q text → ⊥) → ⊥
   not_none l e n =
       let u : mode_of text ≡ None → ⊥ = λ u. true≢false (sym (ap is_found found) ∙ ap is_found u) in
-      let a = asked text short u (ap (λ (k : ℕ). (three_of (drop k text)).readable) (ap next_in found) ∙ sym l.whole ∙ ap is_some e) in
+      let a = asked text short u (ap (λ (k : ℕ). (three_of (drop k text)).readable) (ap next_in found) ∙ sym l.whole ∙ ap is_ok e) in
       n a.request a.stands
 
   -- how many numbers each list has
@@ -67,9 +68,9 @@ module _ (text : List ℕ) (numbers : List Float) (m : Mode) (short : length tex
     all : r.samples ≡ length q.samples
     sum : r.low + r.high + r.samples ≡ length (numbers_of q)
 
-  counted : {r : Option Lists} {k : Lists} {old new : List Float} (q : Request) → Stands q text → ListsRead text m.next old r new → r ≡ Some k → Counted q k
+  counted : {r : Result Lists Lists} {k : Lists} {old new : List Float} (q : Request) → Stands q text → ListsRead text m.next old r new → r ≡ Ok k → Counted q k
   counted {k = k} q s l e =
-      let c = MatchOption-at_some _ (Counts text (three_of (drop m.next text))) k e l.counted in
+      let c = MatchResult-at_ok (Counts text (three_of (drop m.next text))) _ k e l.counted in
       let t = (meant q s).same in
       let lows = c.lows ∙ ap (λ (t : Three). length t.low) t ∙ length-map q.low (of_int binary64) in
       let highs = c.highs ∙ ap (λ (t : Three). length t.high) t ∙ length-map q.high (of_int binary64) in
@@ -78,7 +79,7 @@ module _ (text : List ℕ) (numbers : List Float) (m : Mode) (short : length tex
       let three = length-append q.high q.samples in
       record { lows = lows; highs = highs; all = all; sum = omega (arith, lows, highs, all, two, three) }
 
-  short_of : {r : Option Lists} {k : Lists} {old new : List Float} → ListsRead text m.next old r new → r ≡ Some k → length numbers < k.low + k.high + k.samples
+  short_of : {r : Result Lists Lists} {k : Lists} {old new : List Float} → ListsRead text m.next old r new → r ≡ Ok k → length numbers < k.low + k.high + k.samples
       → TextParsed text numbers (Err (InputSize (k.low + k.high + k.samples) (length numbers))) numbers
   short_of {k = k} l e h = record {
     answer = λ q s. let n = (counted q s l e).sum in
@@ -88,7 +89,7 @@ module _ (text : List ℕ) (numbers : List Float) (m : Mode) (short : length tex
     kept = λ n. refl;
   }
 
-  filled : {r r' : Option Lists} {k : Lists} {old new out : List Float} → ListsRead text m.next old r new → ListsRead text m.next numbers r' out → r ≡ Some k → k.low + k.high + k.samples ≤ length numbers
+  filled : {r r' : Result Lists Lists} {k : Lists} {old new out : List Float} → ListsRead text m.next old r new → ListsRead text m.next numbers r' out → r ≡ Ok k → k.low + k.high + k.samples ≤ length numbers
       → TextParsed text numbers (Ok (request m.border k.low k.high k.samples)) out
   filled {k = k} {out = out} l w e h = record {
     answer = λ q s. let n = counted q s l e in
@@ -108,19 +109,19 @@ module _ (text : List ℕ) (numbers : List Float) (m : Mode) (short : length tex
       answered e f g h = cc
 
   -- ---- the same after a look that wrote nowhere: an empty part was lent and came back
-  unmoved : {r : Option Lists} {part : List Float} → ListsRead text m.next [] r part → numbers ≡ part ++ numbers
+  unmoved : {r : Result Lists Lists} {part : List Float} → ListsRead text m.next [] r part → numbers ≡ part ++ numbers
   unmoved l = sym (laid_nowhere (all_of (three_of (drop m.next text))) numbers l.put)
 
-  pub not_lists : {r : Option Lists} {part : List Float} → ListsRead text m.next [] r part → r ≡ None → TextParsed text numbers (Err Unreadable) (part ++ numbers)
+  pub not_lists : {r : Result Lists Lists} {k : Lists} {part : List Float} → ListsRead text m.next [] r part → r ≡ Err k → TextParsed text numbers (Err Unreadable) (part ++ numbers)
   not_lists l e = subst (TextParsed text numbers (Err Unreadable)) (unmoved l) (no_lists l e)
 
-  pub no_room : {r : Option Lists} {k : Lists} {part : List Float} → ListsRead text m.next [] r part → r ≡ Some k → length (part ++ numbers) < k.low + k.high + k.samples
+  pub no_room : {r : Result Lists Lists} {k : Lists} {part : List Float} → ListsRead text m.next [] r part → r ≡ Ok k → length (part ++ numbers) < k.low + k.high + k.samples
       → TextParsed text numbers (Err (InputSize (k.low + k.high + k.samples) (length (part ++ numbers)))) (part ++ numbers)
   no_room {k = k} l e =
       let need = k.low + k.high + k.samples in
       subst (λ (x : List Float). length x < need → TextParsed text numbers (Err (InputSize need (length x))) x) (unmoved l) (short_of l e)
 
-  pub all_read : {r r' : Option Lists} {k : Lists} {part out : List Float} → ListsRead text m.next [] r part → ListsRead text m.next (part ++ numbers) r' out → r ≡ Some k
+  pub all_read : {r r' : Result Lists Lists} {k : Lists} {part out : List Float} → ListsRead text m.next [] r part → ListsRead text m.next (part ++ numbers) r' out → r ≡ Ok k
       → k.low + k.high + k.samples ≤ length (part ++ numbers) → TextParsed text numbers (Ok (request m.border k.low k.high k.samples)) out
   all_read {r' = r'} {k} {out = out} l w e h =
       let back = sym (unmoved l) in

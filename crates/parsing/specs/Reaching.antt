@@ -1,6 +1,6 @@
 -- Laws of the loop over a line: so far, what is left comes to the same as the whole line; a turn goes one byte further, and it stops where the line is closed or the text ends.
-use Rattle.std.specs.Prelude.{◌≡◌, refl, Bool, true, false, cond, ◌⊎◌, drop, is_some, IfSome, Float}
-use Rattle.std.specs.Bool.{then_some}
+use Rattle.std.specs.Prelude.{◌≡◌, refl, Bool, true, false, cond, ◌⊎◌, drop, Result, Ok, Err, Float}
+use Rattle.std.specs.Result.{is_ok, MatchResult}
 use Rattle.std.proofs.Math.Path.{sym, ap}
 use Rattle.std.proofs.Common.{◌∙◌, inl, inr, length-append, drop_of_length-le}
 use mathlib.Core.List.{List, [], ◌∷◌, ◌++◌, append-nil}
@@ -20,6 +20,11 @@ use Rattle.parsing.specs.Steps.{separates, ended_by, kept_on, Got, got, line_fro
 -- the place behind a line, and how many numbers it has
 abbrev pub line : ℕ → ℕ → Line
 line next count = record { next = next; count = count }
+
+-- done or not, the same line
+abbrev pub line_told : Bool → Line → Result Line Line
+line_told true l = Ok l
+line_told false l = Err l
 
 -- so far: the text from `at` on, after the numbers, comes to the same as the whole line
 pub record Reached (text : List ℕ) (from : ℕ) (old out : List Float) (p : Phase) (at count : ℕ) : Type 0 where
@@ -63,13 +68,13 @@ stopped z p (c ∷ t) (inr e) = absurd (some e)
     some e = let l : length (c ∷ t) ≡ 0 = ap length e in absurd (omega (arith, l))
 
 module _ (text : List ℕ) (from : ℕ) (old out : List Float) (p : Phase) (at count : ℕ) (s : Reached text from old out p at count) where
-  pub ended : {closed : Bool} → closed ≡ closed_at p → (closed ≡ true) ⊎ (length text ≤ at) → LineRead text from old (then_some closed (line at count)) out
+  pub ended : {closed : Bool} → closed ≡ closed_at p → (closed ≡ true) ⊎ (length text ≤ at) → LineRead text from old (line_told closed (line at count)) out
   ended {closed} e h =
       let g : got closed s.numbers (drop at text) ≡ got_of (drop from text) =
       ap (λ (b : Bool). got b s.numbers (drop at text)) e ∙ sym (stopped s.numbers p (drop at text) (why h)) ∙ s.same in
       record {
-        whole = some_then closed (line at count) ∙ ap (λ (k : Got). k.closed) g;
-        ends = then_ends closed (record {
+        whole = whole_of closed (line at count) ∙ ap (λ (k : Got). k.closed) g;
+        ends = ends_of closed (record {
           counted = s.counted ∙ ap (λ (k : Got). length k.numbers) g;
           left = ap (λ (k : Got). k.rest) g;
           inside = s.inside;
@@ -82,13 +87,13 @@ module _ (text : List ℕ) (from : ℕ) (old out : List Float) (p : Phase) (at c
       why (inl t) = inl (sym e ∙ t)
       why (inr l) = inr (drop_of_length-le text l)
 
-      some_then : (b : Bool) (l : Line) → is_some (then_some b l) ≡ b
-      some_then true l = refl
-      some_then false l = refl
+      whole_of : (b : Bool) (l : Line) → is_ok (line_told b l) ≡ b
+      whole_of true l = refl
+      whole_of false l = refl
 
-      then_ends : (b : Bool) {l : Line} → LineEnds text from (got_of (drop from text)) l → IfSome (then_some b l) (LineEnds text from (got_of (drop from text)))
-      then_ends true k = k
-      then_ends false k = tt
+      ends_of : (b : Bool) {l : Line} → LineEnds text from (got_of (drop from text)) l → MatchResult (line_told b l) (LineEnds text from (got_of (drop from text))) (LineEnds text from (got_of (drop from text)))
+      ends_of true k = k
+      ends_of false k = k
 
   pub gone_on : {out' : List Float} {q : Phase} {count' : ℕ} (d : ℕ) → at < length text → closed_at p ≡ false
       → (count' ≡ count + length (ended_by p (get_or text at d))) × (out' ≡ kept_on (ended_by p (get_or text at d)) out count) → q ≡ stepped p (get_or text at d)

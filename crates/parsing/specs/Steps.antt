@@ -1,5 +1,6 @@
 -- What the code does to a line and to three, and what its functions promise. Complete and Sound tie it to the texts. Definitions only.
-use Rattle.std.specs.Prelude.{◌≡◌, Bool, true, false, cond, ◌&&◌, ◌||◌, List, [], ◌∷◌, ◌++◌, ℕ, ◌+◌, ◌≤◌, eqb, length, drop, set, Option, is_some, IfSome, Float}
+use Rattle.std.specs.Prelude.{◌≡◌, Bool, true, false, cond, ◌&&◌, ◌||◌, List, [], ◌∷◌, ◌++◌, ℕ, ◌+◌, ◌≤◌, eqb, length, drop, set, Result, Float}
+use Rattle.std.specs.Result.{is_ok, MatchResult}
 use Rattle.texts.specs.Laying.{laid}
 use Rattle.texts.specs.Texts.{newline, space}
 use Rattle.phases.specs.declared.Phase.{Phase}
@@ -52,10 +53,10 @@ pub record LineEnds (text : List ℕ) (from : ℕ) (g : Got) (l : Line) : Type 0
   pub inside : l.next ≤ length text
   pub fewer : from + l.count ≤ l.next
 
--- a line is answered where it was closed, and its numbers are laid either way
-pub record LineRead (text : List ℕ) (from : ℕ) (out : List Float) (r : Option Line) (out' : List Float) : Type 0 where
-  pub whole : is_some r ≡ (got_of (drop from text)).closed
-  pub ends : IfSome r (LineEnds text from (got_of (drop from text)))
+-- a line is done where it was closed; where it ends and its numbers are said either way
+pub record LineRead (text : List ℕ) (from : ℕ) (out : List Float) (r : Result Line Line) (out' : List Float) : Type 0 where
+  pub whole : is_ok r ≡ (got_of (drop from text)).closed
+  pub ends : MatchResult r (LineEnds text from (got_of (drop from text))) (LineEnds text from (got_of (drop from text)))
   pub put : out' ≡ laid (got_of (drop from text)).numbers out
 
 -- three lines one behind another
@@ -83,6 +84,9 @@ three_of t =
 abbrev pub all_of : Three → List Float
 all_of lists = lists.low ++ (lists.high ++ lists.samples)
 
+abbrev pub counts : ℕ → ℕ → ℕ → Lists
+counts l h s = record { low = l; high = h; samples = s }
+
 -- how many numbers each has
 pub record Counts (text : List ℕ) (lists : Three) (r : Lists) : Type 0 where
   pub lows : r.low ≡ length lists.low
@@ -90,8 +94,8 @@ pub record Counts (text : List ℕ) (lists : Three) (r : Lists) : Type 0 where
   pub all : r.samples ≡ length lists.samples
   pub few : r.low + r.high + r.samples ≤ length text
 
--- they are answered where they are three lines and nothing after, and their numbers are laid either way
-pub record ListsRead (text : List ℕ) (from : ℕ) (out : List Float) (r : Option Lists) (out' : List Float) : Type 0 where
-  pub whole : is_some r ≡ (three_of (drop from text)).readable
-  pub counted : IfSome r (Counts text (three_of (drop from text)))
+-- they are done where they are three lines and nothing after; how many there are and their numbers are said either way
+pub record ListsRead (text : List ℕ) (from : ℕ) (out : List Float) (r : Result Lists Lists) (out' : List Float) : Type 0 where
+  pub whole : is_ok r ≡ (three_of (drop from text)).readable
+  pub counted : MatchResult r (Counts text (three_of (drop from text))) (Counts text (three_of (drop from text)))
   pub put : out' ≡ laid (all_of (three_of (drop from text))) out

@@ -38,13 +38,17 @@ fn parse_lists(text: &[u8], mode: Mode, numbers: &mut [f64]) -> Result<Request, 
     ensures { TextParsed text.now numbers.old result numbers.new }
 {
     // A first look writes nowhere, so that a refusal changes nothing.
-    let lists = read_lists(text, mode.next, &mut numbers[..0]).ok_or(ParseError::Unreadable)?;
+    let lists = match read_lists(text, mode.next, &mut numbers[..0]) {
+        Ok(lists) => lists,
+        Err(_) => return Err(ParseError::Unreadable),
+    };
     let need = lists.low + lists.high + lists.samples;
     let have = numbers.len();
     if have < need {
         return Err(ParseError::InputSize { need, have });
     }
-    read_lists(text, mode.next, numbers);
+    // Done, as the first look was.
+    let _ = read_lists(text, mode.next, numbers);
     Ok(Request {
         border: mode.border,
         low: lists.low,

@@ -42,8 +42,8 @@ fn keep(phase: Phase, c: u8, out: &mut [f64], count: usize) -> usize
     }
 }
 
-// The line that begins at `from`, if it ends, its numbers as far as `out` reaches.
-pub fn read_line(text: &[u8], from: usize, out: &mut [f64]) -> Option<Line>
+// The line that begins at `from`, or what there is of one that does not end; its numbers as far as `out` reaches.
+pub fn read_line(text: &[u8], from: usize, out: &mut [f64]) -> Result<Line, Line>
     requires { (from ≤ length text.now) × (length text.now ≤ longest_text) }
     ensures { LineRead text.now from out.old result out.new }
 {
@@ -54,11 +54,14 @@ pub fn read_line(text: &[u8], from: usize, out: &mut [f64]) -> Option<Line>
         count = keep(phase, c, out, count);
         phase = step(phase, c);
         if closed(phase) {
-            return Some(Line {
+            return Ok(Line {
                 next: at + 1,
                 count,
             });
         }
     }
-    None
+    Err(Line {
+        next: text.len(),
+        count,
+    })
 }

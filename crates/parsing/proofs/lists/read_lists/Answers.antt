@@ -2,17 +2,17 @@
 use Rattle.parsing.specs.Threes.{low_open, high_open, samples_open, more_behind, lists_read}
 use Rattle.parsing.proofs.lists.read_lists.Goals as goal
 
-pub returns-in_err-low : goal.returns-in_err-low
-returns-in_err-low c = rw c.from_residual.ensures (low_open _ _ _ c.read_line.ensures c.in_err-low.was)
+pub returns-in-Err : goal.returns-in-Err
+returns-in-Err c = rw c.three.ensures (low_open _ _ _ c.read_line.ensures c.in-Err.is)
 
-pub returns-in_err-high : goal.returns-in_err-high
-returns-in_err-high c = rw c.from_residual-in_err-high.ensures (high_open _ _ _ c.read_line.ensures c.in_ok-low.was c.min-a.ensures c.read_line-2.ensures c.in_err-high.was)
+pub returns-in-Err-read_line : goal.returns-in-Err-read_line
+returns-in-Err-read_line c = rw c.three-in-Err-read_line.ensures (high_open _ _ _ c.read_line.ensures c.in-Ok.is c.min-a.ensures c.read_line-2.ensures c.in-Err-read_line.is)
 
-pub returns-in_err-samples : goal.returns-in_err-samples
-returns-in_err-samples c = rw c.from_residual-in_err-samples.ensures (samples_open _ _ _ c.read_line.ensures c.in_ok-low.was c.min-a.ensures c.read_line-2.ensures c.in_ok-high.was c.min-b.ensures c.read_line-3.ensures c.in_err-samples.was)
+pub returns-in-Err-read_line-2 : goal.returns-in-Err-read_line-2
+returns-in-Err-read_line-2 c = rw c.three-in-Err-read_line-2.ensures (samples_open _ _ _ c.read_line.ensures c.in-Ok.is c.min-a.ensures c.read_line-2.ensures c.in-Ok-read_line.is c.min-b.ensures c.read_line-3.ensures c.in-Err-read_line-2.is)
 
 pub returns-then-samples-text : goal.returns-then-samples-text
-returns-then-samples-text c = more_behind _ _ _ c.read_line.ensures c.in_ok-low.was c.min-a.ensures c.read_line-2.ensures c.in_ok-high.was c.min-b.ensures c.read_line-3.ensures c.in_ok-samples.was c.if-samples-text.true
+returns-then-samples-text c = rw c.three-read.ensures (more_behind _ _ _ c.read_line.ensures c.in-Ok.is c.min-a.ensures c.read_line-2.ensures c.in-Ok-read_line.is c.min-b.ensures c.read_line-3.ensures c.in-Ok-read_line-2.is c.if-samples-text.true)
 
 pub returns : goal.returns
-returns c = lists_read _ _ _ c.read_line.ensures c.in_ok-low.was c.min-a.ensures c.read_line-2.ensures c.in_ok-high.was c.min-b.ensures c.read_line-3.ensures c.in_ok-samples.was c.if-samples-text.false
+returns c = rw c.three-read.ensures (lists_read _ _ _ c.read_line.ensures c.in-Ok.is c.min-a.ensures c.read_line-2.ensures c.in-Ok-read_line.is c.min-b.ensures c.read_line-3.ensures c.in-Ok-read_line-2.is c.if-samples-text.false)
