@@ -101,6 +101,7 @@ module _ (text : List ℕ) (numbers : List Float) (r : Result parsed.Request Par
       record {
         request = λ k s. absurd (none k s);
         placed = λ k s. absurd (none k s);
+        held = λ k s. absurd (none k s);
         unreadable = λ f. refl;
       }
 
@@ -175,5 +176,14 @@ module _ (text : List ℕ) (numbers : List Float) (r : Result parsed.Request Par
         ends = omega (arith, at.1, sized);
         same = ap (λ (n : ℕ). line_in n x.end numbers') at.0 ∙ ap (λ (n : ℕ). line_in (a.low + a.high) n numbers') at.1 ∙ (lists_of q k).2;
       }) ends;
+      held = λ q k.
+          let f = fields q k in
+          let from : a.low + a.high ≡ length q.low + length q.high = omega (arith, f.lows, f.highs) in
+          let end : a.low + a.high + a.samples ≡ length q.low + length q.high + length q.samples = omega (arith, from, f.all) in
+          record {
+            starts = omega arith;
+            ends = omega (arith, end, sized);
+            same = sym (ap (λ (n : ℕ). line_in n (a.low + a.high + a.samples) numbers') from ∙ ap (λ (n : ℕ). line_in (length q.low + length q.high) n numbers') end) ∙ (lists_of q k).2;
+          };
       unreadable = λ f. absurd (f asked.request asked.stands);
     }

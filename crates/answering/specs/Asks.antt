@@ -1,5 +1,5 @@
 -- What asking promises of a text: a refusal and its number, or a bank and where its line stands among the numbers that were read. Definitions only.
-use Rattle.std.specs.Prelude.{◌≡◌, List, ℕ, ◌-◌, ◌≤◌, length, take, drop, Result, Ok, Err, IfOk, Float}
+use Rattle.std.specs.Prelude.{◌≡◌, List, ℕ, ◌+◌, ◌-◌, ◌≤◌, length, take, drop, Result, Ok, Err, IfOk, Float}
 use Rattle.std.specs.Float.{binary64}
 use Rattle.numbers.specs.Words.{at}
 use Rattle.whole.specs.Floats.{floats}
@@ -57,8 +57,9 @@ pub record Placed (from end : ℕ) (numbers line : List Float) : Type 0 where
   pub ends : end ≤ length numbers
   pub same : line_in from end numbers ≡ line
 
--- of a text, where `numbers` is what was read of it
+-- of a text, where `numbers` is what was read of it: the samples of a request stand behind its tap lists, refused or not
 pub record TextAsked (text : List ℕ) (numbers : List Float) (r : Result Asked Refusal) : Type 0 where
   pub request : (q : Request) → Stands q text → ListsAsked q.border (floats binary64 q.low) (floats binary64 q.high) (length (floats binary64 q.samples)) r
   pub placed : (q : Request) → Stands q text → IfOk r (λ a. Placed a.from a.end numbers (floats binary64 q.samples))
+  pub held : (q : Request) → Stands q text → Placed (length q.low + length q.high) (length q.low + length q.high + length q.samples) numbers (floats binary64 q.samples)
   pub unreadable : ((q : Request) → Stands q text → ⊥) → number_of r ≡ Parses.number_of (Err parsed.Unreadable)
