@@ -32,7 +32,7 @@ pub struct Lent<'a, F> {
     pub told: &'a mut [usize; 2],
 }
 
-// Each word as a float.
+// Each word as a float, and zeros behind them.
 pub fn floats<F: Width>(line: &Line) -> [F; ROOM] {
     let mut all = [F::ZERO; ROOM];
     for (x, word) in all.iter_mut().zip(line.words()) {

@@ -27,10 +27,11 @@ pub enum Stop {
     Unreadable(usize),
 }
 
-// How many lines agree, and why the list was left before its end, if it was.
+// How many lines agree, which line was looked at last, and why the list was left before its end, if it was.
 #[derive(Drop)]
 pub struct Replayed {
     pub agree: usize,
+    pub line: usize,
     pub stop: Option<Stop>,
 }
 
@@ -45,18 +46,25 @@ fn replay_line(number: usize, text: &[u8]) -> Result<(), Stop> {
 // Every line in turn, up to the first that is not as it should be; one that begins with # says something to readers.
 pub fn replay(list: &[u8]) -> Replayed {
     let mut agree = 0usize;
+    let mut line = 0usize;
     for (number, text) in (1usize..).zip(list.split_inclusive(|c| *c == b'\n')) {
+        line = number;
         if text.starts_with(b"#") {
             continue;
         }
         if let Err(stop) = replay_line(number, text) {
             return Replayed {
                 agree,
+                line,
                 stop: Some(stop),
             };
         }
         // No memory holds so many lines.
         agree = agree.saturating_add(1);
     }
-    Replayed { agree, stop: None }
+    Replayed {
+        agree,
+        line,
+        stop: None,
+    }
 }

@@ -1,5 +1,5 @@
 // The words of a line by parts. A part is its count and that many words; the next one follows.
-ghost use Rattle.std.specs.Prelude.{◌≤◌};
+ghost use Rattle.std.specs.Prelude.{◌+◌, ◌≤◌};
 
 use std::ops::Range;
 
@@ -51,18 +51,19 @@ impl Line {
         Some(())
     }
 
-    pub fn words(&self) -> &[u64; ROOM] {
-        &self.words
+    // Its words; behind them are zeros.
+    pub fn words(&self) -> &[u64] {
+        self.words.get(..self.count).unwrap_or(&self.words)
     }
 
     // The places of the words whose count stands at a place.
     fn counted(&self, at: usize) -> Range<usize>
-        ensures { (result.start ≤ result.end) × (result.end ≤ ROOM) }
+        ensures { (result.start ≤ result.end) × (result.end ≤ ROOM) × (result.end ≤ result.start + 1024) }
     {
         match self.words.get(at) {
             Some(count) => {
                 let start = at + 1;
-                start..start + (ROOM - start).min(*count as usize)
+                start..start + (ROOM - start).min(*count as usize).min(LONGEST)
             }
             None => ROOM..ROOM,
         }
